@@ -3,6 +3,7 @@
  *     gcc archive.c $(pkg-config --cflags --libs amqp_types) -o archive
  *     ./archive MESSAGE.. (each in digits of lower case) */
 #include "amqp_types.h"
+#include "digits.h"
 
 #include <stdio.h>
 #include <stdlib.h>
@@ -14,26 +15,6 @@ struct text {
     uint8_t *bytes;
     size_t len;
 };
-
-static int digit_value(char digit) {
-    const char *digits = "0123456789abcdef", *found = digit == 0 ? NULL : strchr(digits, digit);
-    return found == NULL ? -1 : (int)(found - digits);
-}
-
-/* The bytes that digits of lower case stand for, or a null pointer. */
-static uint8_t *bytes_of(const char *digits, size_t *len) {
-    *len = strlen(digits) / 2;
-    uint8_t *bytes = malloc(*len + 1);
-    for (size_t i = 0; bytes != NULL && i < *len; i++) {
-        int high = digit_value(digits[2 * i]), low = digit_value(digits[2 * i + 1]);
-        if (high < 0 || low < 0) {
-            free(bytes);
-            return NULL;
-        }
-        bytes[i] = (uint8_t)(16 * high + low);
-    }
-    return bytes;
-}
 
 /* The hash FNV-1a. */
 static uint64_t hash_of(const uint8_t *bytes, size_t len) {

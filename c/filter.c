@@ -4,6 +4,7 @@
  *     gcc filter.c $(pkg-config --cflags --libs amqp_types) -o filter
  *     ./filter 414d5150... (the bytes in digits of lower case) */
 #include "amqp_types.h"
+#include "digits.h"
 
 #include <stdbool.h>
 #include <stdio.h>
@@ -36,26 +37,6 @@ static const struct named sasl_frames[] = {
     {AMQP_TYPE_SASL_OUTCOME, "sasl-outcome"},
     {AMQP_TYPE_NONE, NULL},
 };
-
-static int digit_value(char digit) {
-    const char *digits = "0123456789abcdef", *found = digit == 0 ? NULL : strchr(digits, digit);
-    return found == NULL ? -1 : (int)(found - digits);
-}
-
-/* The bytes that digits of lower case stand for, or a null pointer. */
-static uint8_t *bytes_of(const char *digits, size_t *len) {
-    *len = strlen(digits) / 2;
-    uint8_t *bytes = malloc(*len + 1);
-    for (size_t i = 0; bytes != NULL && i < *len; i++) {
-        int high = digit_value(digits[2 * i]), low = digit_value(digits[2 * i + 1]);
-        if (high < 0 || low < 0) {
-            free(bytes);
-            return NULL;
-        }
-        bytes[i] = (uint8_t)(16 * high + low);
-    }
-    return bytes;
-}
 
 /* Prints what a frame's body begins with: one of these. What follows a transfer is its payload. */
 static void print_body(const uint8_t *body, size_t len, size_t place, const struct named *of) {

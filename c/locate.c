@@ -7,6 +7,7 @@
  * key of the pair N of a map, and [{N}] for its value. (descriptor) is a descriptor, (constructor) that of an array's items, and (end) the
  * place behind the last item. All numbers count from 0. */
 #include "amqp_types.h"
+#include "digits.h"
 
 #include <stdbool.h>
 #include <stdio.h>
@@ -14,26 +15,6 @@
 #include <string.h>
 
 enum { MOST = 256 };
-
-static int digit_value(char digit) {
-    const char *digits = "0123456789abcdef", *found = digit == 0 ? NULL : strchr(digits, digit);
-    return found == NULL ? -1 : (int)(found - digits);
-}
-
-/* The bytes that digits of lower case stand for, or a null pointer. */
-static uint8_t *bytes_of(const char *digits, size_t *len) {
-    *len = strlen(digits) / 2;
-    uint8_t *bytes = malloc(*len + 1);
-    for (size_t i = 0; bytes != NULL && i < *len; i++) {
-        int high = digit_value(digits[2 * i]), low = digit_value(digits[2 * i + 1]);
-        if (high < 0 || low < 0) {
-            free(bytes);
-            return NULL;
-        }
-        bytes[i] = (uint8_t)(16 * high + low);
-    }
-    return bytes;
-}
 
 static void print_field(uint32_t type, size_t index) {
     uint8_t name[32];

@@ -3,10 +3,10 @@
  *     gcc router.c $(pkg-config --cflags --libs amqp_types) -o router
  *     ./router 005373... (the message in digits of lower case) */
 #include "amqp_types.h"
+#include "digits.h"
 
 #include <stdio.h>
 #include <stdlib.h>
-#include <string.h>
 
 /* The sections in the standard's order. */
 static const struct {
@@ -29,26 +29,6 @@ enum { SECTIONS = sizeof sections / sizeof *sections, FIRST_BARE = 3, LAST_BARE 
 
 /* The field "to" of the properties. */
 enum { TO = 2 };
-
-static int digit_value(char digit) {
-    const char *digits = "0123456789abcdef", *found = digit == 0 ? NULL : strchr(digits, digit);
-    return found == NULL ? -1 : (int)(found - digits);
-}
-
-/* The bytes that digits of lower case stand for, or a null pointer. */
-static uint8_t *bytes_of(const char *digits, size_t *len) {
-    *len = strlen(digits) / 2;
-    uint8_t *bytes = malloc(*len + 1);
-    for (size_t i = 0; bytes != NULL && i < *len; i++) {
-        int high = digit_value(digits[2 * i]), low = digit_value(digits[2 * i + 1]);
-        if (high < 0 || low < 0) {
-            free(bytes);
-            return NULL;
-        }
-        bytes[i] = (uint8_t)(16 * high + low);
-    }
-    return bytes;
-}
 
 /* Finds the section that the bytes begin with: its number in the table, and its size. */
 static struct amqp_outcome section_at(const uint8_t *in, size_t len, int *number, size_t *size) {

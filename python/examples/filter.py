@@ -13,15 +13,14 @@ SASL = (Type.SASL_MECHANISMS, Type.SASL_INIT, Type.SASL_CHALLENGE, Type.SASL_RES
 
 
 def performative_of(body, types):
-    """Returns the name of the performative that a frame's body begins with. What follows a transfer is its payload."""
+    """Returns the type of the performative that a frame's body begins with. What follows a transfer is its payload."""
     for of in types:
         try:
             read(of, body, for_peers(len(body)))
-            return of.name.lower().replace("_", "-")
+            return of
         except AmqpError as error:
             if error.name != "WrongDescriptor" or of is types[-1]:
                 raise
-    raise AssertionError("the last type raises")
 
 
 def told(data, at, size, offset):
@@ -30,9 +29,10 @@ def told(data, at, size, offset):
     if not body:
         return "empty"
     try:
-        return performative_of(body, SASL if kind else AMQP)
+        of = performative_of(body, SASL if kind else AMQP)
+        return of.name.lower().replace("_", "-")
     except AmqpError as error:
-        return f"{error.name} at byte {at + offset + error.at}"
+        return f"{error.name} at byte {at + offset + (error.at or 0)}"
 
 
 def main():

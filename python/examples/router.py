@@ -24,13 +24,13 @@ BARE = SECTIONS[3:8]
 
 def section_at(data, limits):
     """Returns the type and the size of the section that the data begins with."""
-    for of in SECTIONS:
+    for of in SECTIONS[:-1]:
         try:
             return of, read(of, data, limits)
         except AmqpError as error:
-            if error.name != "WrongDescriptor" or of is Type.FOOTER:
+            if error.name != "WrongDescriptor":
                 raise
-    raise AssertionError("the last section raises")
+    return SECTIONS[-1], read(SECTIONS[-1], data, limits)
 
 
 def sections(data):

@@ -1,4 +1,6 @@
 //! The begin of a link (Part 2, section 2.7.3).
+ghost use Rattle.std.specs.Prelude.{◌≡◌};
+ghost use Rattle.amqp_codec.specs.FieldReading.{IsBlank};
 ghost use Rattle.amqp_sums.specs.Types.{composite, fields_of, names_of, one_term, refl, agreement, writing_of};
 ghost use Rattle.amqp_attach.specs.Tables.{attach};
 
@@ -75,20 +77,19 @@ impl Attach {
 
     /// The standard's names of the fields, in order.
     pub const FIELD_NAMES: &'static [&'static str] = attach_fields!(names);
-}
 
-impl FieldList for Attach {
-    ghost list = { fields_of attach };
-
-    fn field_rules() -> &'static [FieldRule] {
-        attach_fields!(rules)
-    }
-
-    fn blank(alloc: Global) -> Attach {
+    /// Returns an attach of the link with this name, by the end with this role. Each other field is omitted, or has the standard's default.
+    #[inline(always)]
+    pub fn new(name: String, handle: Handle, role: Role) -> Attach
+        ensures name { result.name ≡ name }
+        ensures handle { result.handle ≡ handle }
+        ensures role { result.role ≡ role }
+        ensures others { IsBlank (fields_of attach) result }
+    {
         Attach {
-            name: String::new(alloc),
-            handle: Handle(0),
-            role: Role::Sender,
+            name,
+            handle,
+            role,
             snd_settle_mode: SenderSettleMode::Mixed,
             rcv_settle_mode: ReceiverSettleMode::First,
             source: None,
@@ -101,6 +102,18 @@ impl FieldList for Attach {
             desired_capabilities: None,
             properties: None,
         }
+    }
+}
+
+impl FieldList for Attach {
+    ghost list = { fields_of attach };
+
+    fn field_rules() -> &'static [FieldRule] {
+        attach_fields!(rules)
+    }
+
+    fn blank(alloc: Global) -> Attach {
+        Attach::new(String::new(alloc), Handle(0), Role::Sender)
     }
 
     #[inline(always)]

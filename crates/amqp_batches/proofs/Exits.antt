@@ -2,10 +2,10 @@
 use Rattle.std.proofs.Common.{◌≡◌, Bool, Result, Ok, Err, IsErrAnd, sym, subst}
 use Rattle.amqp_wire.specs.declared.error.Error.{Error}
 use Rattle.amqp_decoder.specs.State.{State}
-use Rattle.amqp_decoder.specs.Reading.{AnswersRead, RefusesRead}
+use Rattle.amqp_decoder.specs.Places.{Located, RefusesAt, AnswersAt}
 
-pub refused_at : {A : Type 0} {takes : Bool} {reads : State → A → State → Type 0} {fault : State → Error → Type 0} {st new : State}
-    {error : Error} (answer : Result A Error) → IsErrAnd answer (λ e. e ≡ error) → RefusesRead takes reads fault st error new
-    → AnswersRead takes reads fault st answer new
+pub refused_at : {A : Type 0} {takes : Bool} {reads : State → A → State → Type 0} {fault : State → Located → Type 0} {st new : State}
+    {error : Error} (answer : Result A Error) → IsErrAnd answer (λ e. e ≡ error) → RefusesAt takes reads fault st error new
+    → AnswersAt takes reads fault st answer new
 refused_at (Ok v) h r = absurd h
-refused_at {takes = takes} {reads} {fault} {st} {new} (Err e) h r = subst (λ x. RefusesRead takes reads fault st x new) (sym h) r
+refused_at {takes = takes} {reads} {fault} {st} {new} (Err e) h r = subst (λ x. RefusesAt takes reads fault st x new) (sym h) r

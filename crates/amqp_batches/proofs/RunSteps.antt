@@ -7,8 +7,8 @@ use Rattle.amqp_wire.specs.declared.error.Error.TheVariants.{Memory}
 use Rattle.amqp_lookahead.specs.Sections.{IsSectionAhead}
 use Rattle.amqp_decoder.specs.State.{State}
 use Rattle.amqp_decoder.specs.Steps.{RefusesBy}
-use Rattle.amqp_decoder.specs.Reading.{RefusesRead}
 use Rattle.amqp_decoder.specs.Sections.{PeeksSection}
+use Rattle.amqp_decoder.specs.Places.{Located, RefusesAt}
 use Rattle.amqp_codec.specs.Reading.{Reading}
 use Rattle.amqp_batches.specs.laws.State.{still_among, stays_then, alike_stays, alike_rest}
 use Rattle.amqp_batches.specs.Walk.{IsAtTop, Walk, Walked, WalkFault}
@@ -42,16 +42,16 @@ module _ {T : Type 0} (c : ℕ) (r : Reading T) where
 
   -- the next section was refused
   pub item_refused : (st : State) (xs : List T) (mid : State) (o : Option ℕ) (here : State) (e : Error) (new : State)
-      → SoFar w st xs mid → PeeksSection mid o here → o ≡ Some c → RefusesRead r.takes_memory r.reads r.fault here e new
-      → RefusesRead true (Walked w) (WalkFault w) st e new
+      → SoFar w st xs mid → PeeksSection mid o here → o ≡ Some c → RefusesAt r.takes_memory r.reads r.fault here e new
+      → RefusesAt true (Walked w) (WalkFault w) st e new
   item_refused st xs mid o here e new h p i q =
       step_refused w r.reads r.fault st xs mid here e new h (peeked_top mid o here p) (peeked_alike mid o here p) (λ _. refl)
-      (λ f. (is_ahead mid o here p i, f)) (λ none n x b l s. none s.item b s.read) (λ d. d (is_ahead mid o here p i)) q
+      (λ x f. (is_ahead mid o here p i, f)) (λ none n x b l s. none s.item b s.read) (λ d. d (is_ahead mid o here p i)) q
 
   -- no memory for it
   pub item_not_kept : (st : State) (xs : List T) (v : T) (mid : State) (o : Option ℕ) (here b : State) (e : Error) (new : State)
       → SoFar w st xs mid → PeeksSection mid o here → r.reads here v b → RefusesBy Memory b e new
-      → RefusesRead true (Walked w) (WalkFault w) st e new
+      → RefusesAt true (Walked w) (WalkFault w) st e new
   item_not_kept st xs v mid o here b e new h p k refused =
       ran_out w st xs mid b e new refl h (peeked_top mid o here p)
       (stays_then (alike_stays mid here (peeked_alike mid o here p)) (r.stays here v b k)) refused
@@ -73,8 +73,8 @@ code_is_not (Some x) k c e h i =
     let j : x ≡ k = ap (λ o. unwrap_or o 0) i ∙ sym e in let f = h ∙ eq-eqb x k j in absurd (cc)
 
 -- what is refused as a list of sections is refused as what holds it
-pub refused_via : {A B : Type 0} {takes : Bool} (p : State → A → State → Type 0) (f : State → Error → Type 0) (to : B → A) (st : State)
-    (e : Error) (new : State) → RefusesRead takes p f st e new → RefusesRead takes (λ st v b. p st (to v) b) f st e new
+pub refused_via : {A B : Type 0} {takes : Bool} (p : State → A → State → Type 0) (f : State → Located → Type 0) (to : B → A) (st : State)
+    (e : Error) (new : State) → RefusesAt takes p f st e new → RefusesAt takes (λ st v b. p st (to v) b) f st e new
 refused_via p f to st e new r = record {
   kept = r.kept;
   again = r.again;

@@ -1,12 +1,14 @@
 -- The calls that read one thing after another, up to where they are.
-use Rattle.std.proofs.Common.{◌≡◌, inl, inr, ℕ, zero, suc, Bool, true, false, Option, Some, None, ◌⊎◌, refl, sym, ◌∙◌, subst}
+use Rattle.std.proofs.Common.{◌≡◌, inl, inr, ℕ, zero, suc, Bool, true, false, Option, Some, None, ◌⊎◌, length, refl, sym, ap, ◌∙◌, subst}
 use Rattle.amqp_wire.specs.declared.error.Error.{Error}
 use Rattle.amqp_wire.specs.declared.error.Error.TheVariants.{Memory}
 use Rattle.amqp_decoder.specs.State.{State}
 use Rattle.amqp_decoder.specs.Steps.{IsExcused, RefusesBy}
-use Rattle.amqp_decoder.specs.Reading.{RefusesRead}
 use Rattle.amqp_decoder.specs.Sections.{NotTop, PeeksSection}
 use Rattle.amqp_decoder.proofs.Steps.{answered_later, first_kept}
+use Rattle.amqp_decoder.proofs.Places.{before_later}
+use Rattle.amqp_decoder.specs.Places.{Located, Here, RefusesAt, StandsHere}
+use Rattle.amqp_decoder.proofs.Places.{placed_later}
 use Rattle.amqp_codec.specs.Reading.{Stays, looking, AreAlike}
 use Rattle.amqp_codec.specs.laws.Refusal.{NoneStands, excused_as, no_memory, or_else}
 use Rattle.amqp_batches.specs.laws.State.{still_among, stays_then, alike_stays, alike_rest, alike_sym, alike_trans}
@@ -89,18 +91,30 @@ module _ {M V : Type 0} (w : Walk M V) where
           none g.part s.0 (looking f.0 s.1) g.like (subst (λ (q : State). w.step q g.part s.0 (looking f.0 s.1)) same f.1)
 
   abbrev Refuses : State → Error → State → Type 0
-  Refuses st e new = RefusesRead w.takes_memory (Walked w) (WalkFault w) st e new
+  Refuses st e new = RefusesAt w.takes_memory (Walked w) (WalkFault w) st e new
+
+  -- where something is open from the beginning, nothing was read yet
+  pub top_fault : (st : State) (m : M) (mid : State) (x : Located) → SoFar w st m mid → Here NotTop mid x → WalkFault w st x
+  top_fault st m mid x h n = by_number h.number refl
+    where
+      by_number : (k : ℕ) → h.number ≡ k → WalkFault w st x
+      by_number zero i = not_top (subst (λ (q : State). Here NotTop q x) (h.first i) n)
+      by_number (suc k) i =
+          let s = so_far_stays st m mid h in
+          let t = steps_top w h.number st w.blank m h.last (λ z. (let q = sym i ∙ z in absurd (cc))) h.steps in
+          absurd (n.0.0 (s.place ∙ t.1) (s.saved ∙ t.2) (still_among s ∙ t.3))
 
   -- the look at what comes next was refused
-  pub look_refused : {A : Type 0} (p : State → A → State → Type 0) (f : State → Error → Type 0) (st : State) (m : M) (mid : State)
-      (e : Error) (new : State) → SoFar w st m mid → (f mid e → NotTop mid e ⊎ w.fault mid m e)
-      → (f mid e → IsAtTop mid → NoneStands (Walked w) st) → RefusesRead false p f mid e new → Refuses st e new
+  pub look_refused : {A : Type 0} (p : State → A → State → Type 0) (f : State → Located → Type 0) (st : State) (m : M) (mid : State)
+      (e : Error) (new : State) → SoFar w st m mid → ((x : Located) → f mid x → Here NotTop mid x ⊎ w.fault mid m x)
+      → ((x : Located) → f mid x → IsAtTop mid → NoneStands (Walked w) st) → RefusesAt false p f mid e new → Refuses st e new
   look_refused p f st m mid e new h named none r =
       let s = so_far_stays st m mid h in
       record {
         kept = answered_later s.sound r.kept;
         again = again h.number refl;
-        named = λ g. or_else (excused_as e new no_memory) (λ n. by_fault (named n)) (r.named (s.error ∙ g));
+        named = λ g. or_else (excused_as e new no_memory) (placed_later st mid new s.sound (λ x n. by_fault x (named x n)))
+            (r.named (s.error ∙ g));
         none = by_error mid.error refl;
       }
     where
@@ -112,31 +126,30 @@ module _ {M V : Type 0} (w : Walk M V) where
           let g = steps_top w h.number st w.blank m h.last (λ z. (let q = sym i ∙ z in absurd (cc))) h.steps in
           let going = g.0 in absurd (cc)
 
-      by_fault : NotTop mid e ⊎ w.fault mid m e → WalkFault w st e
-      by_fault (inl n) =
-          let s = so_far_stays st m mid h in not_top ((λ p q a. n.0 (s.place ∙ p) (s.saved ∙ q) (still_among s ∙ a)), n.1)
-      by_fault (inr x) = in_step h.number m h.last mid h.steps h.here x
+      by_fault : (x : Located) → Here NotTop mid x ⊎ w.fault mid m x → WalkFault w st x
+      by_fault x (inl n) = top_fault st m mid x h n
+      by_fault x (inr f) = in_step h.number m h.last mid h.steps h.here f
 
       by_error : (o : Option Error) → mid.error ≡ o → IsExcused w.takes_memory e new ⊎ NoneStands (Walked w) st
       by_error None i =
           or_else (excused_as e new no_memory)
           (λ x v b k.
           (let s = so_far_stays st m mid h in
-          none x (i, s.place ∙ k.top.1, s.saved ∙ k.top.2, still_among s ∙ k.top.3) v b k)) (r.named i)
+          none _ x.1 (i, s.place ∙ k.top.1, s.saved ∙ k.top.2, still_among s ∙ k.top.3) v b k)) (r.named i)
       by_error (Some d) i = inr (λ v b k. (let j = (so_far_stays st m mid h).error ∙ k.top.0 in absurd (cc)))
 
   -- at the top level only, where nothing else refuses it
   pub peek_refused : {A : Type 0} (p : State → A → State → Type 0) (st : State) (m : M) (mid : State) (e : Error) (new : State)
-      → SoFar w st m mid → RefusesRead false p NotTop mid e new → Refuses st e new
+      → SoFar w st m mid → RefusesAt false p (Here NotTop) mid e new → Refuses st e new
   peek_refused p st m mid e new h r =
-      look_refused p NotTop st m mid e new h (λ n. inl n) (λ n t v b k. n.0 t.1 t.2 t.3) r
+      look_refused p (Here NotTop) st m mid e new h (λ x n. inl n) (λ x n t v b k. n.0.0 t.1 t.2 t.3) r
 
   -- the next step was refused
-  pub step_refused : {A : Type 0} {a : Bool} (p : State → A → State → Type 0) (f : State → Error → Type 0) (st : State) (m : M)
+  pub step_refused : {A : Type 0} {a : Bool} (p : State → A → State → Type 0) (f : State → Located → Type 0) (st : State) (m : M)
       (mid here : State) (e : Error) (new : State) → SoFar w st m mid → IsAtTop mid → AreAlike mid here
-      → (a ≡ true → w.takes_memory ≡ true) → (f here e → w.fault here m e)
+      → (a ≡ true → w.takes_memory ≡ true) → ((x : Located) → f here x → w.fault here m x)
       → (NoneStands p here → (n x : M) (b : State) → w.alike m n → w.step here n x b → ⊥) → (w.done m here.rest → ⊥)
-      → RefusesRead a p f here e new → Refuses st e new
+      → RefusesAt a p f here e new → Refuses st e new
   step_refused p f st m mid here e new h t a may named none ends r =
       let s = stays_then (so_far_stays st m mid h) (alike_stays mid here a) in
       let u = began_top st m mid h t in
@@ -145,7 +158,8 @@ module _ {M V : Type 0} (w : Walk M V) where
         again = λ d x. (let going = u.0 in absurd (cc));
         named = λ g.
             or_else (excused_as e new may)
-            (λ n. in_step h.number m h.last here h.steps (alike_trans h.last mid here h.here a) (named n)) (r.named (s.error ∙ g));
+            (placed_later {g = WalkFault w st} st here new s.sound
+            (λ x n. in_step h.number m h.last here h.steps (alike_trans h.last mid here h.here a) (named x n))) (r.named (s.error ∙ g));
         none = or_else (excused_as e new may) (λ n. none_walked st m mid here h a (none n) ends) r.none;
       }
 
@@ -181,8 +195,9 @@ module _ {M V : Type 0} (w : Walk M V) where
           (subst (w.done m) (alike_rest h.last here (alike_trans h.last mid here h.here a) ∙ sym (alike_rest h.last g.at g.here)) d)
 
   pub unmade : (st : State) (m : M) (mid here : State) (error e : Error) (new : State) → SoFar w st m mid → IsAtTop mid
-      → AreAlike mid here → w.done m here.rest → w.unfinished m error → RefusesBy error here e new → Refuses st e new
-  unmade st m mid here error e new h t a d f refused =
+      → AreAlike mid here → w.done m here.rest → w.unfinished m error → RefusesBy error here e new → StandsHere here new
+      → Refuses st e new
+  unmade st m mid here error e new h t a d f refused at =
       let s = stays_then (so_far_stays st m mid h) (alike_stays mid here a) in
       let u = began_top st m mid h t in
       let going = s.error ∙ u.0 in
@@ -191,6 +206,8 @@ module _ {M V : Type 0} (w : Walk M V) where
       record {
         kept = answered_later s.sound (first_kept {st = here} going refused);
         again = λ d x. (let g = u.0 in absurd (cc));
-        named = λ _. inr (not_made h.number m h.last h.steps left (subst (w.unfinished m) (sym is) f));
+        named = λ _. inr (length here.rest, not_made h.number m h.last h.steps left (subst (w.unfinished m) (sym is) f)
+            (ap length (alike_rest h.last here (alike_trans h.last mid here h.here a))),
+            before_later st here (length here.rest) new s.sound (at going));
         none = inr (none_made st m mid here error h a d f);
       }

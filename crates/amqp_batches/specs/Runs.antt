@@ -1,9 +1,9 @@
 -- Runs: the sections of one kind that come next, one after another (Part 3, sections 3.2.6 and 3.2.7).
 use Rattle.std.proofs.Common.{◌≡◌, ℕ, true, List, [], ◌∷◌, ◌++◌, refl, sym, ap, subst, arith}
 use Rattle.std.specs.List.{AllZip}
-use Rattle.amqp_wire.specs.declared.error.Error.{Error}
 use Rattle.amqp_lookahead.specs.Sections.{IsSectionAhead}
 use Rattle.amqp_decoder.specs.State.{State}
+use Rattle.amqp_decoder.specs.Places.{Located}
 use Rattle.amqp_codec.specs.Each.{count_all}
 use Rattle.amqp_codec.specs.Reading.{Reading, looking, AreAlike}
 use Rattle.amqp_batches.specs.laws.State.{any_taken}
@@ -20,7 +20,7 @@ module _ {T : Type 0} (c : ℕ) (r : Reading T) where
     pub read : r.reads st item b
 
   -- One comes next, and has the fault.
-  abbrev pub SectionFault : State → Error → Type 0
+  abbrev pub SectionFault : State → Located → Type 0
   SectionFault st e = IsSectionAhead st.rest c × r.fault st e
 
   pub run_one : (st : State) (xs ys vs ws : List T) (a b : State) → AllZip r.same xs ys → RunStep st xs vs a → RunStep st ys ws b
@@ -88,4 +88,5 @@ module _ {T : Type 0} (c : ℕ) (r : Reading T) where
     fault_elsewhere = λ source failed st xs e h. (h.0, r.fault_elsewhere source failed st e h.1);
     not_outside = λ e o st xs h. r.not_outside e o st h.1;
     unfinished_not_outside = λ e o xs h. h;
+    within = λ st xs e h. r.within st e h.1;
   }

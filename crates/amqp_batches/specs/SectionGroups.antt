@@ -12,6 +12,7 @@ use Rattle.amqp_decoder.specs.State.{Source, State}
 use Rattle.amqp_decoder.specs.Steps.{IsOutside}
 use Rattle.amqp_decoder.specs.Sections.{NotTop}
 use Rattle.amqp_decoder.specs.OtherSource.{elsewhere}
+use Rattle.amqp_decoder.specs.Places.{Located, Here}
 use Rattle.amqp_codec.specs.TermType.{TermType}
 use Rattle.amqp_codec.specs.TermReading.{reading_of}
 use Rattle.amqp_codec.specs.Written.{Writing}
@@ -55,20 +56,25 @@ module _ {V : Type 0} (c : ℕ) (r : Reading V) where
   RunReads st v b = IsSectionAhead st.rest c × r.reads st v b
 
   -- Why it isn't: a container is open; or what begins with the section has the fault; or no section of this code comes next.
-  pub data RunFault (st : State) (e : Error) : Type 0 where
-    not_top : NotTop st e → RunFault st e
+  pub data RunFault (st : State) (e : Located) : Type 0 where
+    not_top : Here NotTop st e → RunFault st e
     in_run : IsSectionAhead st.rest c → r.fault st e → RunFault st e
-    other_section : (IsSectionAhead st.rest c → ⊥) → e ≡ WrongDescriptor → RunFault st e
+    other_section : (IsSectionAhead st.rest c → ⊥) → e.error ≡ WrongDescriptor → e.left ≡ length st.rest → RunFault st e
 
-  pub run_fault_elsewhere : (source : Source) (failed : Bool) (st : State) (e : Error) → RunFault st e → RunFault (elsewhere source failed st) e
+  pub run_fault_elsewhere : (source : Source) (failed : Bool) (st : State) (e : Located) → RunFault st e → RunFault (elsewhere source failed st) e
   run_fault_elsewhere source failed st e (not_top n) = not_top n
   run_fault_elsewhere source failed st e (in_run a f) = in_run a (r.fault_elsewhere source failed st e f)
-  run_fault_elsewhere source failed st e (other_section n i) = other_section n i
+  run_fault_elsewhere source failed st e (other_section n i place) = other_section n i place
 
-  pub run_not_outside : (e : Error) → IsOutside e → (st : State) → RunFault st e → ⊥
-  run_not_outside e o st (not_top n) = outside_other e InvalidValue (λ x. x) o n.1
+  pub run_not_outside : (e : Located) → IsOutside e.error → (st : State) → RunFault st e → ⊥
+  run_not_outside e o st (not_top n) = outside_other e.error InvalidValue (λ x. x) o n.0.1
   run_not_outside e o st (in_run a f) = r.not_outside e o st f
-  run_not_outside e o st (other_section n i) = outside_other e WrongDescriptor (λ x. x) o i
+  run_not_outside e o st (other_section n i place) = outside_other e.error WrongDescriptor (λ x. x) o i
+
+  pub run_within : (st : State) (e : Located) → RunFault st e → e.left ≤ length st.rest
+  run_within st e (not_top n) = omega (arith, n.1)
+  run_within st e (in_run a f) = r.within st e f
+  run_within st e (other_section n i place) = omega (arith, place)
 
   -- How it is read as a group.
   abbrev pub run_reading : Reading V
@@ -89,6 +95,7 @@ module _ {V : Type 0} (c : ℕ) (r : Reading V) where
     taken = λ st v b h. any_taken (r.taken st v b h.1);
     stays = λ st v b h. r.stays st v b h.1;
     misspelled = λ h. absurd (no_term h);
+    within = run_within;
     reads_alone = λ h. absurd (no_term h);
     fault_alone = λ h. absurd (no_term h);
     looked = λ n st v b h. (let f = r.looked n st v b h.1 in (f.0, (h.0, f.1)));

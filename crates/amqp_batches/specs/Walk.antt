@@ -6,6 +6,7 @@ use Rattle.amqp_decoder.specs.State.{Source, State}
 use Rattle.amqp_decoder.specs.Steps.{IsOutside}
 use Rattle.amqp_decoder.specs.Sections.{NotTop}
 use Rattle.amqp_decoder.specs.OtherSource.{elsewhere}
+use Rattle.amqp_decoder.specs.Places.{Located, Here}
 use Rattle.amqp_codec.specs.Reading.{Taken, Stays, looking, AreAlike}
 
 -- No error was kept, nothing is open, and what stands next may be looked at.
@@ -23,8 +24,8 @@ pub record Leaves (st : State) (before after : ℕ) (b : State) : Type 0 where
 pub record Walk (M V : Type 0) : Type 1 where
   -- one step, from where so much was read to where so much more was
   pub step : State → M → M → State → Type 0
-  -- the error names a fault of the step that comes next
-  pub fault : State → M → Error → Type 0
+  -- the error names a fault of the step that comes next, at its place
+  pub fault : State → M → Located → Type 0
   -- no step comes next before these bytes
   pub done : M → List ℕ → Type 0
   -- nothing was read
@@ -59,9 +60,10 @@ pub record Walk (M V : Type 0) : Type 1 where
   pub finish_counted : (m : M) (v : V) → finish m v → count v ≤ weight m
   pub finish_or : (m n : M) (v : V) (e : Error) → alike m n → finish m v → unfinished n e → ⊥
   -- of the faults
-  pub fault_elsewhere : (source : Source) (failed : Bool) (st : State) (m : M) (e : Error) → fault st m e
+  pub fault_elsewhere : (source : Source) (failed : Bool) (st : State) (m : M) (e : Located) → fault st m e
       → fault (elsewhere source failed st) m e
-  pub not_outside : (e : Error) → IsOutside e → (st : State) (m : M) → fault st m e → ⊥
+  pub not_outside : (e : Located) → IsOutside e.error → (st : State) (m : M) → fault st m e → ⊥
+  pub within : (st : State) (m : M) (e : Located) → fault st m e → e.left ≤ length st.rest
   pub unfinished_not_outside : (e : Error) → IsOutside e → (m : M) → unfinished m e → ⊥
 
 -- So many steps, one after another.
@@ -83,9 +85,9 @@ pub record Walked {M V : Type 0} (w : Walk M V) (st : State) (v : V) (b : State)
 
 -- Why no value is read: a container is open; or behind some whole steps the next one can't be made; or what all of them read makes
 -- none.
-pub data WalkFault {M V : Type 0} (w : Walk M V) (st : State) (e : Error) : Type 0 where
-  not_top : NotTop st e → WalkFault w st e
+pub data WalkFault {M V : Type 0} (w : Walk M V) (st : State) (e : Located) : Type 0 where
+  not_top : Here NotTop st e → WalkFault w st e
   in_step : (n : ℕ) (part : M) (last mid : State) → Steps w n st w.blank part last → AreAlike last mid → w.fault mid part e
       → WalkFault w st e
-  not_made : (n : ℕ) (part : M) (last : State) → Steps w n st w.blank part last → w.done part last.rest → w.unfinished part e
-      → WalkFault w st e
+  not_made : (n : ℕ) (part : M) (last : State) → Steps w n st w.blank part last → w.done part last.rest → w.unfinished part e.error
+      → e.left ≡ length last.rest → WalkFault w st e

@@ -2,7 +2,7 @@
 use Rattle.std.proofs.Common.{true, false}
 use Rattle.amqp_codec.specs.Reading.{Reading}
 use Rattle.amqp_batches.specs.Walk.{Walk, Walked, WalkFault}
-use Rattle.amqp_batches.specs.laws.Walk.{walked_one, walked_counted, walked_taken, walked_stays, walked_looked, walked_elsewhere}
+use Rattle.amqp_batches.specs.laws.Walk.{walked_one, walked_counted, walked_taken, walked_stays, walked_looked, walked_elsewhere, walk_within}
 use Rattle.amqp_batches.specs.laws.Walk.{walk_fault_elsewhere, walk_not_outside, no_term}
 
 -- What follows it may have been looked at; and it isn't one term.
@@ -24,6 +24,7 @@ walk_reading w = record {
   taken = walked_taken w;
   stays = walked_stays w;
   misspelled = λ h. absurd (no_term h);
+  within = walk_within w;
   reads_alone = λ h. absurd (no_term h);
   fault_alone = λ h. absurd (no_term h);
   looked = walked_looked w;
@@ -50,6 +51,7 @@ reading_via r to = record {
   taken = λ st v. r.taken st (to v);
   stays = λ st v. r.stays st (to v);
   misspelled = r.misspelled;
+  within = r.within;
   reads_alone = λ h alone st v. r.reads_alone h alone st (to v);
   fault_alone = r.fault_alone;
   looked = λ k st v. r.looked k st (to v);

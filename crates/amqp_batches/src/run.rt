@@ -1,7 +1,7 @@
 //! Runs: the sections of one kind that come next, one after another (Part 3, sections 3.2.6 and 3.2.7).
 ghost use Rattle.std.specs.Prelude.{◌≡◌, ◌⊎◌, ℕ, true};
 ghost use Rattle.amqp_wire.specs.Sources.{Tells};
-ghost use Rattle.amqp_decoder.specs.Reading.{AnswersRead};
+ghost use Rattle.amqp_decoder.specs.Places.{AnswersAt};
 ghost use Rattle.amqp_decoder.specs.Steps.{Tries};
 ghost use Rattle.amqp_codec.specs.TermReading.{reading_of};
 ghost use Rattle.amqp_batches.specs.Walk.{Walked, WalkFault};
@@ -35,7 +35,7 @@ pub fn read_run<T: BatchItem + DeserializeTerm, R: ByteSource>(
     decoder: &mut Decoder<R>,
     alloc: Global,
 ) -> Result<Vec<T>, Error>
-    ensures read { Tells R.remaining → AnswersRead true (λ st v b. Walked (run_walk T.code (reading_of T.term)) st v.items b)
+    ensures read { Tells R.remaining → AnswersAt true (λ st v b. Walked (run_walk T.code (reading_of T.term)) st v.items b)
         (WalkFault (run_walk T.code (reading_of T.term))) decoder.old result decoder.new }
     ensures tries { Tries true decoder.old result decoder.new }
 {

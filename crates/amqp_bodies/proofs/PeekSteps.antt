@@ -1,12 +1,14 @@
 -- What is read behind a look at the section that comes next.
-use Rattle.std.proofs.Common.{◌≡◌, inr, ℕ, Bool, true, false, not, Option, Some, None, Result, Ok, Err, ◌⊎◌, refl, sym, ◌∙◌, subst}
+use Rattle.std.proofs.Common.{◌≡◌, inr, ℕ, Bool, true, false, not, Option, Some, None, Result, Ok, Err, ◌⊎◌, length, refl, sym, ◌∙◌, subst}
 use Rattle.amqp_wire.specs.declared.error.Error.{Error}
 use Rattle.amqp_lookahead.specs.Sections.{IsSectionAhead}
 use Rattle.amqp_decoder.specs.State.{State}
 use Rattle.amqp_decoder.specs.Steps.{IsExcused, RefusesBy}
-use Rattle.amqp_decoder.specs.Reading.{RefusesRead, AnswersRead}
 use Rattle.amqp_decoder.specs.Sections.{NotTop, PeeksSection}
 use Rattle.amqp_decoder.proofs.Steps.{answered_later, first_kept}
+use Rattle.amqp_decoder.proofs.Places.{before_later}
+use Rattle.amqp_decoder.specs.Places.{Located, Here, RefusesAt, AnswersAt, StandsHere}
+use Rattle.amqp_decoder.proofs.Places.{placed_later}
 use Rattle.amqp_codec.specs.Reading.{Reading, looking}
 use Rattle.amqp_codec.specs.laws.Refusal.{NoneStands, excused_as, no_memory, or_else}
 use Rattle.amqp_batches.specs.laws.State.{still_among, alike_stays, alike_rest}
@@ -33,17 +35,18 @@ no_section_here st o here p i c h = none_here st o here c p (λ e. (let z = sym 
 
 module _ {V : Type 0} (r : Reading V) where
   abbrev Refuses : State → Error → State → Type 0
-  Refuses st e new = RefusesRead r.takes_memory (SeenReads r) (SeenFault r) st e new
+  Refuses st e new = RefusesAt r.takes_memory (SeenReads r) (SeenFault r) st e new
 
   -- the look was refused
-  pub peek_refused : (st : State) (e : Error) (new : State) → (NotTop st e → r.fault st e)
-      → ((seen : State) (v : V) (b : State) → r.reads seen v b → IsAtTop seen) → RefusesRead false PeeksSection NotTop st e new
+  pub peek_refused : (st : State) (e : Error) (new : State) → ((x : Located) → Here NotTop st x → r.fault st x)
+      → ((seen : State) (v : V) (b : State) → r.reads seen v b → IsAtTop seen) → RefusesAt false PeeksSection (Here NotTop) st e new
       → Refuses st e new
   peek_refused st e new named top q = record {
     kept = q.kept;
     again = q.again;
     named = λ g.
-        or_else (excused_as e new no_memory) (λ n. record { seen = st; alike = refl; fault = named n }) (q.named g);
+        or_else (excused_as e new no_memory)
+        (placed_later {g = SeenFault r st} st st new refl (λ x n. record { seen = st; alike = refl; fault = named x n })) (q.named g);
     none = by_error st.error refl;
   }
     where
@@ -52,13 +55,14 @@ module _ {V : Type 0} (r : Reading V) where
           or_else (excused_as e new no_memory)
           (λ n v b h.
           (let s = alike_stays st h.seen h.alike in
-          let t = top h.seen v b h.read in n.0 (sym s.place ∙ t.1) (sym s.saved ∙ t.2) (sym (still_among s) ∙ t.3))) (q.named i)
+          let t = top h.seen v b h.read in n.1.0.0 (sym s.place ∙ t.1) (sym s.saved ∙ t.2) (sym (still_among s) ∙ t.3))) (q.named i)
       by_error (Some d) i = inr (λ v b h. (let g = (seen_reading r).going st v b h in absurd (cc)))
 
   -- it was refused behind the look
-  pub group_refused : {A : Type 0} {a : Bool} (p : State → A → State → Type 0) (f : State → Error → Type 0) (st : State) (o : Option ℕ)
+  pub group_refused : {A : Type 0} {a : Bool} (p : State → A → State → Type 0) (f : State → Located → Type 0) (st : State) (o : Option ℕ)
       (here : State) (e : Error) (new : State) → PeeksSection st o here → (a ≡ true → r.takes_memory ≡ true)
-      → (f here e → r.fault here e) → (NoneStands p here → NoneStands r.reads here) → RefusesRead a p f here e new → Refuses st e new
+      → ((x : Located) → f here x → r.fault here x) → (NoneStands p here → NoneStands r.reads here) → RefusesAt a p f here e new
+      → Refuses st e new
   group_refused p f st o here e new k may named none q =
       let alike = peeked_alike st o here k in
       let s = alike_stays st here alike in
@@ -66,7 +70,9 @@ module _ {V : Type 0} (r : Reading V) where
         kept = answered_later s.sound q.kept;
         again = λ d x. (let g = k.going in absurd (cc));
         named = λ g.
-            or_else (excused_as e new may) (λ n. record { seen = here; alike = alike; fault = named n }) (q.named (s.error ∙ k.going));
+            or_else (excused_as e new may)
+            (placed_later {g = SeenFault r st} st here new s.sound (λ x n. record { seen = here; alike = alike; fault = named x n }))
+            (q.named (s.error ∙ k.going));
         none = or_else (excused_as e new may)
             (λ n v b h.
             (let m = read_behind r st h.seen here v b h.alike alike h.read in none n v (looking m.0 b) m.1)) q.none;
@@ -74,15 +80,24 @@ module _ {V : Type 0} (r : Reading V) where
 
   -- by an error of its own
   pub kept_refused : (st : State) (o : Option ℕ) (here : State) (error e : Error) (new : State) → PeeksSection st o here
-      → r.fault here error → NoneStands r.reads here → RefusesBy error here e new → Refuses st e new
-  kept_refused st o here error e new k named none refused =
+      → r.fault here (record { error = error; left = length here.rest }) → NoneStands r.reads here → RefusesBy error here e new
+      → StandsHere here new → Refuses st e new
+  kept_refused st o here error e new k named none refused at =
       let alike = peeked_alike st o here k in
       let s = alike_stays st here alike in
       let going = s.error ∙ k.going in
       record {
         kept = answered_later s.sound (first_kept {st = here} going refused);
         again = λ d x. (let g = k.going in absurd (cc));
-        named = λ g. inr (record { seen = here; alike = alike; fault = subst (r.fault here) (sym (refused going).0) named });
+        named = λ g. inr (
+          length here.rest,
+          record {
+            seen = here;
+            alike = alike;
+            fault = subst (λ x. r.fault here (record { error = x; left = length here.rest })) (sym (refused going).0) named;
+          },
+          before_later st here (length here.rest) new s.sound (at going),
+        );
         none = inr (λ v b h.
             (let m = read_behind r st h.seen here v b h.alike alike h.read in none v (looking m.0 b) m.1));
       }
@@ -92,13 +107,13 @@ module _ {V : Type 0} (r : Reading V) where
   group_read st o here v b k h = record { seen = here; alike = peeked_alike st o here k; read = h }
 
   -- it was read, or refused, behind the look
-  pub group_answered : (p : State → V → State → Type 0) (f : State → Error → Type 0) (st : State) (o : Option ℕ) (here : State)
-      (x : Result V Error) (new : State) → PeeksSection st o here → r.takes_memory ≡ true → ((e : Error) → f here e → r.fault here e)
+  pub group_answered : (p : State → V → State → Type 0) (f : State → Located → Type 0) (st : State) (o : Option ℕ) (here : State)
+      (x : Result V Error) (new : State) → PeeksSection st o here → r.takes_memory ≡ true → ((x : Located) → f here x → r.fault here x)
       → ((v : V) (b : State) → p here v b → r.reads here v b) → (NoneStands p here → NoneStands r.reads here)
-      → AnswersRead true p f here x new → AnswersRead r.takes_memory (SeenReads r) (SeenFault r) st x new
+      → AnswersAt true p f here x new → AnswersAt r.takes_memory (SeenReads r) (SeenFault r) st x new
   group_answered p f st o here (Ok v) new k takes named reads none h = group_read st o here v new k (reads v new h)
   group_answered p f st o here (Err e) new k takes named reads none h =
-      group_refused p f st o here e new k (λ _. takes) (named e) none h
+      group_refused p f st o here e new k (λ _. takes) named none h
 
 -- what a comparison of codes that aren't equal tells
 pub was_false : (b : Bool) → true ≡ not b → false ≡ b

@@ -3,7 +3,7 @@ use Rattle.std.proofs.Common.{◌≡◌, List, [], ◌∷◌, ◌++◌, inl, inr
 use Rattle.std.specs.List.{AllZip, Any, Contains}
 use Rattle.amqp_wire.specs.declared.error.Error.{Error}
 use Rattle.amqp_decoder.specs.State.{State}
-use Rattle.amqp_decoder.specs.Reading.{RefusesRead}
+use Rattle.amqp_decoder.specs.Places.{RefusesAt}
 use Rattle.amqp_codec.specs.Reading.{Reading}
 use Rattle.amqp_codec.specs.TermType.{TermType}
 use Rattle.amqp_sections.specs.declared.amqp_sequence.AmqpSequence.{AmqpSequence}
@@ -22,7 +22,7 @@ no_some r st n (Some v) b h = n v b h
 
 -- what is refused is refused where it may be absent, too
 pub some_refused : {T : Type 0} (r : Reading T) (st : State) (e : Error) (new : State)
-    → RefusesRead r.takes_memory r.reads r.fault st e new → RefusesRead r.takes_memory (SomeReads r) r.fault st e new
+    → RefusesAt r.takes_memory r.reads r.fault st e new → RefusesAt r.takes_memory (SomeReads r) r.fault st e new
 some_refused r st e new q = record {
   kept = q.kept;
   again = q.again;

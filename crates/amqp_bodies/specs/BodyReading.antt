@@ -10,6 +10,7 @@ use Rattle.amqp_decoder.specs.State.{Source, State}
 use Rattle.amqp_decoder.specs.Steps.{IsOutside}
 use Rattle.amqp_decoder.specs.Sections.{NotTop}
 use Rattle.amqp_decoder.specs.OtherSource.{elsewhere}
+use Rattle.amqp_decoder.specs.Places.{Located, Here}
 use Rattle.amqp_codec.specs.Reading.{Reading, Taken, Stays, looking, AreAlike}
 use Rattle.amqp_sections.specs.declared.data.Data.{Data as DataSection}
 use Rattle.amqp_sections.specs.declared.amqp_sequence.AmqpSequence.{AmqpSequence}
@@ -19,7 +20,7 @@ use Rattle.amqp_batches.specs.laws.State.{any_taken}
 use Rattle.amqp_batches.specs.Bounds.{IsBoundByLimits}
 use Rattle.amqp_batches.specs.laws.Bound.{takes_so}
 use Rattle.amqp_batches.specs.Walk.{IsAtTop}
-use Rattle.amqp_batches.specs.NoSections.{NoSection, no_section_elsewhere, no_section_not_outside}
+use Rattle.amqp_batches.specs.NoSections.{NoSection, no_section_elsewhere, no_section_not_outside, no_section_within}
 use Rattle.amqp_batches.specs.laws.Walk.{no_term}
 use Rattle.amqp_batches.specs.SectionGroups.{RunReads, run_reading}
 use Rattle.amqp_bodies.specs.declared.body.Body.{Body}
@@ -59,13 +60,13 @@ module _ {T : Type 0} (rv : Reading (AmqpValue T)) (rd : Reading (TransparentVec
 
   -- Why none is: a container is open; or the group whose section comes next has the fault; or that section is none of a body; or no
   -- section comes next.
-  pub data BodyFault (st : State) (e : Error) : Type 0 where
-    not_top : NotTop st e → BodyFault st e
+  pub data BodyFault (st : State) (e : Located) : Type 0 where
+    not_top : Here NotTop st e → BodyFault st e
     in_value : IsSectionAhead st.rest 0x77 → rv.fault st e → BodyFault st e
     in_data : IsSectionAhead st.rest 0x75 → rd.fault st e → BodyFault st e
     in_sequence : IsSectionAhead st.rest 0x76 → rs.fault st e → BodyFault st e
-    other_section : {c : ℕ} → IsSectionAhead st.rest c → (c ≡ 0x75 → ⊥) → (c ≡ 0x76 → ⊥) → (c ≡ 0x77 → ⊥) → e ≡ WrongDescriptor
-        → BodyFault st e
+    other_section : {c : ℕ} → IsSectionAhead st.rest c → (c ≡ 0x75 → ⊥) → (c ≡ 0x76 → ⊥) → (c ≡ 0x77 → ⊥) → e.error ≡ WrongDescriptor
+        → e.left ≡ length st.rest → BodyFault st e
     not_section : ((c : ℕ) → IsSectionAhead st.rest c → ⊥) → NoSection st e → BodyFault st e
 
   -- They hold the same of the same kind.
@@ -155,21 +156,30 @@ module _ {T : Type 0} (rv : Reading (AmqpValue T)) (rd : Reading (TransparentVec
   body_elsewhere source failed st (Sequence v) b h = (h.0, (h.1.0, rs.reads_elsewhere source failed st v b h.1.1))
   body_elsewhere source failed st Empty b h = absurd h
 
-  pub fault_elsewhere : (source : Source) (failed : Bool) (st : State) (e : Error) → BodyFault st e → BodyFault (elsewhere source failed st) e
+  pub fault_elsewhere : (source : Source) (failed : Bool) (st : State) (e : Located) → BodyFault st e
+      → BodyFault (elsewhere source failed st) e
   fault_elsewhere source failed st e (not_top n) = not_top n
   fault_elsewhere source failed st e (in_value a f) = in_value a (rv.fault_elsewhere source failed st e f)
   fault_elsewhere source failed st e (in_data a f) = in_data a (rd.fault_elsewhere source failed st e f)
   fault_elsewhere source failed st e (in_sequence a f) = in_sequence a (rs.fault_elsewhere source failed st e f)
-  fault_elsewhere source failed st e (other_section a f g h i) = other_section a f g h i
+  fault_elsewhere source failed st e (other_section a f g h i left) = other_section a f g h i left
   fault_elsewhere source failed st e (not_section a f) = not_section a (no_section_elsewhere source failed st e f)
 
-  pub not_outside : (e : Error) → IsOutside e → (st : State) → BodyFault st e → ⊥
-  not_outside e o st (not_top n) = outside_other e InvalidValue (λ x. x) o n.1
+  pub not_outside : (e : Located) → IsOutside e.error → (st : State) → BodyFault st e → ⊥
+  not_outside e o st (not_top n) = outside_other e.error InvalidValue (λ x. x) o n.0.1
   not_outside e o st (in_value a f) = rv.not_outside e o st f
   not_outside e o st (in_data a f) = rd.not_outside e o st f
   not_outside e o st (in_sequence a f) = rs.not_outside e o st f
-  not_outside e o st (other_section a f g h i) = outside_other e WrongDescriptor (λ x. x) o i
+  not_outside e o st (other_section a f g h i left) = outside_other e.error WrongDescriptor (λ x. x) o i
   not_outside e o st (not_section a f) = no_section_not_outside e o st f
+
+  pub body_within : (st : State) (e : Located) → BodyFault st e → e.left ≤ length st.rest
+  body_within st e (not_top n) = omega (arith, n.1)
+  body_within st e (in_value a f) = rv.within st e f
+  body_within st e (in_data a f) = rd.within st e f
+  body_within st e (in_sequence a f) = rs.within st e f
+  body_within st e (other_section a f g h i left) = omega (arith, left)
+  body_within st e (not_section a f) = no_section_within st e f
 
   -- How a body of any kind is read.
   abbrev pub body_reading : Reading (Body T)
@@ -190,6 +200,7 @@ module _ {T : Type 0} (rv : Reading (AmqpValue T)) (rd : Reading (TransparentVec
     taken = body_taken;
     stays = body_stays;
     misspelled = λ h. absurd (no_term h);
+    within = body_within;
     reads_alone = λ h. absurd (no_term h);
     fault_alone = λ h. absurd (no_term h);
     looked = body_looked;

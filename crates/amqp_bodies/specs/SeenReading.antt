@@ -1,10 +1,10 @@
 -- What is read behind a look at what comes next.
 use Rattle.std.proofs.Common.{◌≡◌, ℕ, ◌+◌, ◌≤◌, Bool, true, false, List, length, drop, None, refl, sym, ap, ◌∙◌, subst, arith}
 use Rattle.amqp_model.specs.Term.{Term}
-use Rattle.amqp_wire.specs.declared.error.Error.{Error}
 use Rattle.amqp_decoder.specs.State.{Source, State}
 use Rattle.amqp_decoder.specs.OtherSource.{elsewhere}
-use Rattle.amqp_codec.specs.Reading.{Reading, Taken, looking, AreAlike, greatest, start, start_within, BeginsWith, BeginsWithin}
+use Rattle.amqp_decoder.specs.Places.{Located}
+use Rattle.amqp_codec.specs.Reading.{Reading, Taken, looking, AreAlike, greatest, start_within, BeginsWith, BeginsWithin}
 use Rattle.amqp_wire.specs.declared.limits.Limits.{Limits}
 use Rattle.amqp_codec.specs.Rewriting.{Rewriting}
 use Rattle.amqp_batches.specs.Bounds.{limited_to, IsBoundByLimits}
@@ -20,7 +20,7 @@ module _ {V : Type 0} (r : Reading V) where
     pub alike : AreAlike st seen
     pub read : r.reads seen v b
 
-  pub record SeenFault (st : State) (e : Error) : Type 0 where
+  pub record SeenFault (st : State) (e : Located) : Type 0 where
     pub seen : State
     pub alike : AreAlike st seen
     pub fault : r.fault seen e
@@ -67,7 +67,8 @@ module _ {V : Type 0} (r : Reading V) where
     read = r.reads_elsewhere source failed h.seen v b h.read;
   }
 
-  pub seen_fault_elsewhere : (source : Source) (failed : Bool) (st : State) (e : Error) → SeenFault st e → SeenFault (elsewhere source failed st) e
+  pub seen_fault_elsewhere : (source : Source) (failed : Bool) (st : State) (e : Located) → SeenFault st e
+      → SeenFault (elsewhere source failed st) e
   seen_fault_elsewhere source failed st e h = record {
     seen = elsewhere source failed h.seen;
     alike = ap (elsewhere source failed) h.alike;
@@ -92,6 +93,7 @@ module _ {V : Type 0} (r : Reading V) where
     taken = seen_taken;
     stays = λ st v b h. stays_then (alike_stays st h.seen h.alike) (r.stays h.seen v b h.read);
     misspelled = λ h. absurd (no_term h);
+    within = λ st e h. omega (arith, r.within h.seen e h.fault, ap length (alike_rest st h.seen h.alike));
     reads_alone = λ h. absurd (no_term h);
     fault_alone = λ h. absurd (no_term h);
     looked = λ n st v b h. (b.ahead, record { seen = h.seen; alike = h.alike; read = h.read });

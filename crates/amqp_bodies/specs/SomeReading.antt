@@ -71,6 +71,7 @@ module _ {T : Type 0} (r : Reading T) where
     taken = some_taken;
     stays = some_stays;
     misspelled = r.misspelled;
+    within = r.within;
     reads_alone = some_alone;
     fault_alone = r.fault_alone;
     looked = some_looked;

@@ -5,7 +5,7 @@ ghost use Rattle.amqp_bodies.specs.NullBodies.{IsNull};
 ghost use Rattle.amqp_model.specs.Term.{null, leaf};
 ghost use Rattle.amqp_wire.specs.Sources.{Tells};
 ghost use Rattle.amqp_wire.specs.declared.error.Error.TheVariants.{Memory, EmptyBody};
-ghost use Rattle.amqp_decoder.specs.Reading.{AnswersRead};
+ghost use Rattle.amqp_decoder.specs.Places.{AnswersAt};
 ghost use Rattle.amqp_decoder.specs.Steps.{Tries};
 ghost use Rattle.amqp_codec.specs.Reading.{Reading};
 ghost use Rattle.amqp_bodies.specs.Bodies.{Empties, Made};
@@ -59,7 +59,7 @@ pub trait DeserializableBody: BodySection + Sized + Drop {
     /// Reads a group of its sections, if a section of a body comes next: one section, or those of one kind that come one after another. It
     /// returns `WrongDescriptor` for another section, and otherwise the errors of a section.
     fn read_group<R: ByteSource>(decoder: &mut Decoder<R>, alloc: Global) -> Result<Self, Error>
-        ensures read { Tells R.remaining → AnswersRead group.takes_memory group.reads group.fault decoder.old result decoder.new }
+        ensures read { Tells R.remaining → AnswersAt group.takes_memory group.reads group.fault decoder.old result decoder.new }
         ensures tries { Tries group.takes_memory decoder.old result decoder.new };
 }
 
@@ -92,7 +92,7 @@ pub trait FromBody: FromEmptyBody + Drop {
         decoder: &mut Decoder<R>,
         alloc: Global,
     ) -> Result<Self::Body, Error>
-        ensures read { Tells R.remaining → AnswersRead made.group.takes_memory made.group.reads made.group.fault decoder.old result
+        ensures read { Tells R.remaining → AnswersAt made.group.takes_memory made.group.reads made.group.fault decoder.old result
             decoder.new }
         ensures tries { Tries made.group.takes_memory decoder.old result decoder.new };
 
@@ -121,7 +121,7 @@ pub trait TransposeOption<To: FromBody>: BodySection + Sized {
         decoder: &mut Decoder<R>,
         alloc: Global,
     ) -> Result<Self::From, Error>
-        ensures read { Tells R.remaining → AnswersRead transposed.group.takes_memory transposed.group.reads transposed.group.fault
+        ensures read { Tells R.remaining → AnswersAt transposed.group.takes_memory transposed.group.reads transposed.group.fault
             decoder.old result decoder.new }
         ensures tries { Tries transposed.group.takes_memory decoder.old result decoder.new };
 
@@ -145,7 +145,7 @@ pub trait EmptyIsNothing: DeserializableBody + FromBody<Body = Self> {
         decoder: &mut Decoder<R>,
         alloc: Global,
     ) -> Result<Option<Self>, Error>
-        ensures read { Tells R.remaining → AnswersRead optional.group.takes_memory optional.group.reads optional.group.fault decoder.old
+        ensures read { Tells R.remaining → AnswersAt optional.group.takes_memory optional.group.reads optional.group.fault decoder.old
             result decoder.new }
         ensures tries { Tries optional.group.takes_memory decoder.old result decoder.new };
 

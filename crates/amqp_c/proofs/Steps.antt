@@ -1,24 +1,23 @@
 -- How far the steps of a path lead: to a further byte, or to a piece of a lower rank.
-use Rattle.std.proofs.Common.{◌≡◌, ℕ, suc, ◌+◌, ◌≤◌, Bool, true, false, cond, eqb, List, [], ◌∷◌, ◌++◌, length, sym, ap, subst, ◌∙◌, arith}
+use Rattle.std.proofs.Common.{◌≡◌, ℕ, suc, ◌+◌, ◌≤◌, Bool, true, false, cond, eqb, List, [], ◌∷◌, length, sym, ap, subst, ◌∙◌, arith}
 use Rattle.std.proofs.lemmas.List.{length-append}
-use Rattle.amqp_model.proofs.Bytes.{length-bytes}
-use Rattle.std.specs.Int.{bytes_high_first}
-use Rattle.amqp_model.specs.Term.{Container, array, Descriptor}
+use Rattle.amqp_model.specs.Term.{array, Descriptor}
 use Rattle.amqp_model.specs.Constructors.{Format, compound, format, constructors, look_up}
 use Rattle.amqp_model.specs.Spelling.{Constructor}
-use Rattle.amqp_lengths.specs.Fronts.{Behind}
 use Rattle.amqp_lengths.specs.Pieces.{NamesAny}
 use Rattle.amqp_lengths.specs.Lengths.{Row, HasMarks, Constructs}
 use Rattle.amqp_lengths.specs.Stands as stands
-use Rattle.amqp_lengths.specs.Stands.{a_value, an_item, an_element, a_descriptor, an_array, a_code, an_end, Around, Contains, all_there, cut_short, IsUnder, AnyTerm, AnyData}
+use Rattle.amqp_lengths.specs.Stands.{a_value, an_item, an_element, a_descriptor, an_array, a_code, an_end, Around, IsUnder, AnyTerm, AnyData}
 use Rattle.amqp_lengths.specs.Stands.{Step, to_descriptor, to_described, to_item, to_end, to_array, to_code, to_its_descriptor, to_element}
 use Rattle.amqp_lengths.specs.Stands.{to_array_end, to_its_described}
 use Rattle.amqp_paths.specs.declared.piece.Piece.{Piece}
 use Rattle.amqp_paths.specs.declared.piece.Piece.TheVariants.{Value, Descriptor as a_mark, Item, ArrayContent, ElementConstructor, Element, End}
 use Rattle.amqp_paths.specs.declared.path.Reached.{Reached}
 use Rattle.amqp_paths.specs.Pieces.{IsPiece, rank}
-use Rattle.amqp_paths.specs.Steps.{Among}
 use Rattle.amqp_paths.specs.Walks.{IsReached, IsStep}
+use Rattle.amqp_paths.proofs.Among.{among_length}
+use Rattle.amqp_paths.proofs.Containers.{content_place}
+use Rattle.amqp_paths.proofs.Furthers.{behind_less}
 
 -- sizes and counts of arrays have bytes
 abbrev IsWide : Format → Type 0
@@ -44,39 +43,6 @@ array_wide : (c w : ℕ) → format c ≡ compound array w → 1 ≤ w
 array_wide c w is = subst IsWide is (wide_rows c constructors are_wide)
 
 -- lengths
-among_length : (z y : List ℕ) (a b : ℕ) → Among z y a b → a + length y + b ≡ length z
-among_length z y a b h = omega (arith, ap length h.is, length-append h.front (y ++ h.rest), length-append y h.rest, h.before_is, h.behind_is)
-
-behind_less : (P : List ℕ → Type 0) (input after : List ℕ) → Behind P input after → length after ≤ length input
-behind_less P input after h = omega (arith, ap length h.is, length-append h.front after)
-
-content_length : (kind : Container) (w n : ℕ) (items b : List ℕ) (around : Around) (behind : ℕ) → Contains kind w n items b around behind
-    → w + w + length items + behind ≡ length b
-content_length kind w n items b around behind (all_there after h) =
-    let (k, size, content, is, same, fits, room, s) = h.spelled in
-    omega (
-      arith,
-      ap length h.is,
-      length-append h.front after,
-      ap length s,
-      length-append (bytes_high_first w size) (bytes_high_first w n ++ content),
-      length-append (bytes_high_first w n) content,
-      length-bytes w size,
-      length-bytes w n,
-      ap length same,
-    )
-content_length kind w n items b around behind (cut_short (size, inner, fits, s, (less, (count, after, room, s', (same, all))))) =
-    omega (
-      arith,
-      ap length s,
-      ap length s',
-      length-append (bytes_high_first w size) inner,
-      length-append (bytes_high_first w count) after,
-      length-bytes w size,
-      length-bytes w count,
-      ap length all,
-    )
-
 constructor_length : (ds : List Descriptor) (c : ℕ) (b : List ℕ) → Constructor ds c b → length ds + 1 ≤ length b
 constructor_length [] c b (s, known) = omega (arith, ap length s)
 constructor_length (d ∷ ds) c b (first, second, s, names, more) =
@@ -113,11 +79,11 @@ step_weight : (P Q : stands.Piece) (d k behind : ℕ) (z y : List ℕ) (around :
 step_weight P Q d k behind z y around (to_descriptor X e x own) = omega arith
 step_weight P Q d k behind z y around (to_described X e x after own b) = omega (arith, behind_less NamesAny x after b)
 step_weight P Q d k behind z y around (to_item X e x data_ items after c w n i more kind ar u is other holds less row) =
-    omega (arith, under_length X x c data_ u, content_length kind w n items data_ ar more holds, behind_less (Row AnyTerm i) items after row)
+    omega (arith, under_length X x c data_ u, content_place kind w n items data_ ar more holds, behind_less (Row AnyTerm i) items after row)
 step_weight P Q d k behind z y around (to_end X e x data_ items after c w n more kind ar u is other holds row) =
-    omega (arith, under_length X x c data_ u, content_length kind w n items data_ ar more holds, behind_less (Row AnyTerm n) items after row)
+    omega (arith, under_length X x c data_ u, content_place kind w n items data_ ar more holds, behind_less (Row AnyTerm n) items after row)
 step_weight P Q d k behind z y around (to_array X e x data_ items c w n more ar u is holds) =
-    omega (arith, under_length X x c data_ u, content_length array w n items data_ ar more holds, array_wide c w is)
+    omega (arith, under_length X x c data_ u, content_place array w n items data_ ar more holds, array_wide c w is)
 step_weight P Q d k behind z y around (to_code n e x after m few b) = omega (arith, behind_less (HasMarks m) x after b)
 step_weight P Q d k behind z y around (to_its_descriptor m e x few) = omega arith
 step_weight P Q d k behind z y around (to_element n e x data_ after ds c i few b less row) =

@@ -1,15 +1,17 @@
 -- What is read and rewritten as the type of a number, within limits that cross as numbers.
 use Rattle.std.specs.Prelude.{◌≡◌, ◌⊎◌, ◌<◌, ℕ, List, length}
-use Rattle.amqp_wire.specs.declared.error.Error.{Error}
+use Rattle.amqp_model.specs.Term.{Term}
 use Rattle.amqp_wire.specs.declared.error.Error.TheVariants.{Memory}
 use Rattle.amqp_wire.specs.declared.limits.Limits.{Limits}
-use Rattle.amqp_codec.specs.Reading.{Reading, BeginsWithin, IsUnreadableWithin}
-use Rattle.amqp_lines.specs.Answers.{of_type, type_name, IsText, HasNoText}
+use Rattle.amqp_wire.specs.declared.refusal.Refusal.{Refusal}
+use Rattle.amqp_codec.specs.Reading.{Reading, BeginsWithin, IsUnreadableWithin, IsFaultyAt}
+use Rattle.amqp_lines.specs.Answers.{of_type, type_name, IsText}
 use Rattle.amqp_lines.specs.Rows.{number_in}
 use Rattle.amqp_lines.specs.contracts.request.TypeName.{the_type}
 use Rattle.amqp_lines.specs.declared.request.TypeName.{TypeName}
 use Rattle.amqp_c.specs.Limits.{AreLimits}
 use Rattle.amqp_c.specs.Outcomes.{done, no_room, failure_outcome}
+use Rattle.amqp_read_write.specs.Rewritten.{IsUnwrittenWithin}
 use Rattle.amqp_read_write.specs.Room.{StandsIn, HasNoRoom}
 use Rattle.amqp_c.specs.declared.limits.GivenLimits.{GivenLimits}
 use Rattle.amqp_c.specs.declared.outcome.Failure.{Failure}
@@ -39,23 +41,36 @@ pub record IsLengthWithin {T : Type 0} (limits : Limits) (r : Reading T) (input 
 abbrev pub IsLengthOf : TypeName → Limits → List ℕ → ℕ → Type 0
 IsLengthOf = of_type (λ T reading canons limits input n. IsLengthWithin limits reading input n)
 
--- Within the limits the input begins with no value of the type, and has the fault.
-abbrev pub HasNoLength : TypeName → Limits → List ℕ → Error → Type 0
-HasNoLength = of_type (λ T reading canons limits input e. IsUnreadableWithin limits reading input e)
+-- Within the limits the input begins with no value, and has the fault, at the place.
+abbrev pub IsUnreadableAt : {T : Type 0} → Limits → Reading T → List ℕ → Refusal → Type 0
+IsUnreadableAt limits r input refusal = IsUnreadableWithin limits r input refusal.error × IsFaultyAt limits r input refusal.error refusal.at
+
+-- The same of the type with that name.
+abbrev pub HasNoLength : TypeName → Limits → List ℕ → Refusal → Type 0
+HasNoLength = of_type (λ T reading canons limits input refusal. IsUnreadableAt limits reading input refusal)
+
+-- Within the limits there is no canonical text: the input begins with no value, and has the fault at the place; or the value that it begins
+-- with can't be written.
+abbrev pub HasNoTextAt : {T : Type 0} → Limits → Reading T → (T → List Term) → List ℕ → Refusal → Type 0
+HasNoTextAt limits r canons input refusal = IsUnreadableAt limits r input refusal ⊎ IsUnwrittenWithin limits r canons input refusal.error
+
+-- The same of the type with that name.
+abbrev pub HasNoText : TypeName → Limits → List ℕ → Refusal → Type 0
+HasNoText = of_type (λ T reading canons limits input refusal. HasNoTextAt limits reading canons input refusal)
 
 -- Why a call over a type fails: no type has the number, or the limits are none, or memory ran out, or the type's value has this fault.
-abbrev pub Fails : ℕ → GivenLimits → (TypeName → Limits → Error → Type 0) → Failure → Type 0
+abbrev pub Fails : ℕ → GivenLimits → (TypeName → Limits → Refusal → Type 0) → Failure → Type 0
 Fails number given Has NoType = (named : TypeName) → HasNumber named number → ⊥
 Fails number given Has NoLimits = ((named : TypeName) × HasNumber named number) × (128 < given.nesting)
 Fails number given Has (Failed r) =
-    (named : TypeName) × (within : Limits) × IsOf number given named within × ((r.error ≡ Memory) ⊎ Has named within r.error)
+    (named : TypeName) × (within : Limits) × IsOf number given named within × ((r.error ≡ Memory) ⊎ Has named within r)
 
 -- Within the limits, so many bytes are taken by the value of the type that the input begins with.
 abbrev pub IsLength : ℕ → GivenLimits → List ℕ → ℕ → Type 0
 IsLength number given input n = (named : TypeName) × (within : Limits) × IsOf number given named within × IsLengthOf named within input n
 
 abbrev pub FailsToRead : ℕ → GivenLimits → List ℕ → Failure → Type 0
-FailsToRead number given input f = Fails number given (λ named within e. HasNoLength named within input e) f
+FailsToRead number given input f = Fails number given (λ named within r. HasNoLength named within input r) f
 
 -- Within the limits, the text is the canonical one of the value of the type that the input begins with, which takes so many bytes.
 abbrev pub IsRewriting : ℕ → GivenLimits → List ℕ → List ℕ → ℕ → Type 0
@@ -63,7 +78,7 @@ IsRewriting number given input text n =
     (named : TypeName) × (within : Limits) × IsOf number given named within × IsText within named input text n
 
 abbrev pub FailsToRewrite : ℕ → GivenLimits → List ℕ → Failure → Type 0
-FailsToRewrite number given input f = Fails number given (λ named within e. HasNoText within named input e) f
+FailsToRewrite number given input f = Fails number given (λ named within r. HasNoText named within input r) f
 
 -- The length is told of the value that the input begins with; or the outcome says why there is none, and the number stays as it was.
 abbrev pub Reads : ℕ → GivenLimits → List ℕ → ℕ → ℕ → Outcome → Type 0

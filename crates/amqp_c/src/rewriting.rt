@@ -1,12 +1,12 @@
 //! Reading and rewriting as the type with a number.
 ghost use Rattle.std.specs.Prelude.{◌≡◌, ◌≤◌, ◌⊎◌, List, ℕ, length, IfOk, IfErr, OnErr};
 ghost use Rattle.amqp_wire.specs.declared.error.Error.TheVariants.{Memory};
-ghost use Rattle.amqp_codec.specs.Reading.{IsUnreadableWithin};
-ghost use Rattle.amqp_lines.specs.Answers.{IsText, HasNoText, HasNoTextWithin};
+ghost use Rattle.amqp_lines.specs.Answers.{IsText};
 ghost use Rattle.amqp_read_write.specs.Rewritten.{IsRewrittenWithin};
 ghost use Rattle.amqp_read_write.specs.Room.{IsPlaced};
 ghost use Rattle.amqp_c.specs.Outcomes.{IsPlacedIn};
-ghost use Rattle.amqp_c.specs.Rewriting.{IsLengthWithin, IsLengthOf, HasNoLength, IsOf, Fails, IsLength, FailsToRead, IsRewriting, FailsToRewrite};
+ghost use Rattle.amqp_c.specs.Rewriting.{IsLengthWithin, IsLengthOf, IsUnreadableAt, HasNoLength, HasNoTextAt, HasNoText, IsOf, Fails};
+ghost use Rattle.amqp_c.specs.Rewriting.{IsLength, FailsToRead, IsRewriting, FailsToRewrite};
 
 use crate::limits::GivenLimits;
 use crate::outcome::Failure;
@@ -24,7 +24,7 @@ fn len_within<T: Deserialize>(
     alloc: Global,
 ) -> Result<usize, Refusal>
     ensures found { IfOk result (λ n. IsLengthWithin limits.now T.reading input.now n) }
-    ensures refused { IfErr result (λ r. (r.error ≡ Memory) ⊎ IsUnreadableWithin limits.now T.reading input.now r.error) }
+    ensures refused { IfErr result (λ r. (r.error ≡ Memory) ⊎ IsUnreadableAt limits.now T.reading input.now r) }
     ensures within { IfErr result (λ r. r.at ≤ length input.now) }
 {
     let (_value, len) = from_slice_located::<T>(input, limits, alloc)?;
@@ -39,7 +39,7 @@ fn len_of_value(
     alloc: Global,
 ) -> Result<usize, Refusal>
     ensures found { IfOk result (λ n. IsLengthOf named limits.now input.now n) }
-    ensures refused { IfErr result (λ r. (r.error ≡ Memory) ⊎ HasNoLength named limits.now input.now r.error) }
+    ensures refused { IfErr result (λ r. (r.error ≡ Memory) ⊎ HasNoLength named limits.now input.now r) }
     ensures within { IfErr result (λ r. r.at ≤ length input.now) }
 {
     types!(named, len_within(input, limits, alloc))
@@ -55,7 +55,7 @@ fn text_within<T: Canonical>(
 ) -> Result<(usize, usize), Refusal>
     ensures text { IfOk result (λ r. (text : List ℕ) × IsRewrittenWithin limits.now T.reading T.writing.canons input.now text r.1
         × IsPlaced text room.old room.new r.0) }
-    ensures refused { IfErr result (λ r. (r.error ≡ Memory) ⊎ HasNoTextWithin limits.now T.reading T.writing.canons input.now r.error) }
+    ensures refused { IfErr result (λ r. (r.error ≡ Memory) ⊎ HasNoTextAt limits.now T.reading T.writing.canons input.now r) }
     ensures within { IfErr result (λ r. r.at ≤ length input.now) }
     ensures kept { OnErr result (room.new ≡ room.old) }
 {
@@ -75,7 +75,7 @@ fn text_of_value(
     alloc: Global,
 ) -> Result<(usize, usize), Refusal>
     ensures text { IfOk result (λ r. (text : List ℕ) × IsText limits.now named input.now text r.1 × IsPlaced text room.old room.new r.0) }
-    ensures refused { IfErr result (λ r. (r.error ≡ Memory) ⊎ HasNoText limits.now named input.now r.error) }
+    ensures refused { IfErr result (λ r. (r.error ≡ Memory) ⊎ HasNoText named limits.now input.now r) }
     ensures within { IfErr result (λ r. r.at ≤ length input.now) }
     ensures kept { OnErr result (room.new ≡ room.old) }
 {

@@ -9,9 +9,9 @@ use Rattle.amqp_model.specs.Standing.{Standing}
 use Rattle.amqp_wire.specs.declared.error.Error.{Error}
 use Rattle.amqp_decoder.specs.declared.frame.Place.TheVariants.{InMap}
 use Rattle.amqp_decoder.specs.State.{State}
-use Rattle.amqp_decoder.specs.Reading.{RefusesRead}
 use Rattle.amqp_decoder.specs.Primitives.{ReadsValue}
 use Rattle.amqp_decoder.specs.Containers.{Opens, Closes}
+use Rattle.amqp_decoder.specs.Places.{RefusesAt}
 use Rattle.amqp_codec.specs.TermType.{TermType}
 use Rattle.amqp_codec.specs.laws.Refusal.{refused_first, refused_later, opened_going, opened_sound}
 use Rattle.amqp_codec.specs.Pairs.{IsNew, HaveOtherKeys, MeansMap}
@@ -72,11 +72,11 @@ module _ {K V : Type 0} (key : TermType K) (value : TermType V) (cmp : K → K �
 
   -- what refuses the pairs as a row refuses them in order
   pub row_refused_in_order : (n : ℕ) (st : State) (e : Error) (new : State)
-      → RefusesRead true (ReadsPairsRow key value n) (PairsFault key value n) st e new
-      → RefusesRead true (ReadsInOrder key value cmp n) (PairsFault key value n) st e new
+      → RefusesAt true (ReadsPairsRow key value n) (PairsFault key value n) st e new
+      → RefusesAt true (ReadsInOrder key value cmp n) (PairsFault key value n) st e new
   row_refused_in_order n st e new r =
       refused_first (ReadsPairsRow key value n) (PairsFault key value n) (ReadsInOrder key value cmp n) (PairsFault key value n) st e new
-      (λ t. t) (λ f. f) (λ none m b h. none h.pairs b h.row) r
+      (λ t. t) (λ _ f. f) (λ none m b h. none h.pairs b h.row) r
 
   abbrev Listed : Standing → Term → List (K × V) → Type 0
   Listed = MeansMap (key.ignores_standing && value.ignores_standing) key.means value.means key.same
@@ -88,18 +88,18 @@ module _ {K V : Type 0} (key : TermType K) (value : TermType V) (cmp : K → K �
   as_listed st m b h = record { bytes = h.bytes; term = h.term; stands = h.stands; moved = h.moved; meant = h.meant.meant }
 
   -- and so with the whole map
-  pub refused_in_order : (st : State) (e : Error) (new : State) → RefusesRead true (ReadsValue Listed) (MapFault key value) st e new
-      → RefusesRead true (ReadsValue Meant) (MapFault key value) st e new
+  pub refused_in_order : (st : State) (e : Error) (new : State) → RefusesAt true (ReadsValue Listed) (MapFault key value) st e new
+      → RefusesAt true (ReadsValue Meant) (MapFault key value) st e new
   refused_in_order st e new r =
-      refused_first (ReadsValue Listed) (MapFault key value) (ReadsValue Meant) (MapFault key value) st e new (λ t. t) (λ f. f)
+      refused_first (ReadsValue Listed) (MapFault key value) (ReadsValue Meant) (MapFault key value) st e new (λ t. t) (λ _ f. f)
       (λ none m b h. none h.meant.pairs b (as_listed st m b h)) r
 
   pub pairs_refused : (st : State) (n : ℕ) (first : State) (e : Error) (new : State) → Opens map st (2 * n) first
-      → RefusesRead true (ReadsInOrder key value cmp n) (PairsFault key value n) first e new
-      → RefusesRead true (ReadsValue Meant) (MapFault key value) st e new
+      → RefusesAt true (ReadsInOrder key value cmp n) (PairsFault key value n) first e new
+      → RefusesAt true (ReadsValue Meant) (MapFault key value) st e new
   pairs_refused st n first e new h r =
       refused_later (ReadsInOrder key value cmp n) (PairsFault key value n) (ReadsValue Meant) (MapFault key value) st first e new
-      (λ t. t) (opened_sound h) h.begun.going (opened_going h) (λ f. at_pair h f)
+      (λ t. t) (opened_sound h) h.begun.going (opened_going h) (λ _. at_pair h)
       (λ none m b k.
       (let x = others_in key value st n first k.meant.pairs b h (as_listed st m b k) in
       none m x.last (record { pairs = k.meant.pairs; row = x.others; sorted = k.meant.sorted }))) r

@@ -16,11 +16,13 @@ use Rattle.amqp_decoder.proofs.ContainerTerms.{Together, together, used_up, row_
 use Rattle.amqp_decoder.proofs.OneReading.{stands_same, row_front}
 use Rattle.amqp_decoder.proofs.Opening.{opens_same}
 use Rattle.amqp_decoder.proofs.Peeks.{value-peeked}
-use Rattle.amqp_decoder.specs.Reading.{RefusesRead, AnswersRead, BeginFault, PeeksCode}
+use Rattle.amqp_decoder.specs.Reading.{BeginFault, PeeksCode}
 use Rattle.amqp_decoder.specs.Primitives.{standing, ReadsValue, Means}
 use Rattle.amqp_decoder.specs.Containers.{Opens, OpenFault, Closes, CloseFault}
 use Rattle.amqp_decoder.proofs.Steps.{answered_later, first_kept}
 use Rattle.amqp_decoder.specs.Steps.{RefusesBy}
+use Rattle.amqp_decoder.specs.Places.{Here, RefusesAt, AnswersAt, StandsHere, StandsBefore}
+use Rattle.amqp_decoder.proofs.Places.{before_later}
 use Rattle.amqp_encoder.proofs.Refused.{count_of}
 use Rattle.amqp_codec.specs.Fields.{Fields, slots, take_memory}
 use Rattle.amqp_codec.specs.FieldReading.{absence, MeansAt, FaultAt, FitsFront, KeepsBut, FitsAt, ItemRead, ItemFault, no_item, null_item}
@@ -142,12 +144,12 @@ module _ {V : Type 0} (fs : Fields V) where
 
   -- an item couldn't be read
   pub item_refused : (st : State) (n i : ℕ) (v : V) (mid : State) (e : Error) (new : State) → i < n → i < length (rules_of (slots fs))
-      → mid.error ≡ None → FieldsSoFar fs st n i v mid → RefusesRead (take_memory fs) (ReadsValue (FitsAt fs i)) (ItemFault fs i) mid e new
-      → RefusesRead (take_memory fs) (FieldsRead fs) (FieldsFault fs) st e new
+      → mid.error ≡ None → FieldsSoFar fs st n i v mid → RefusesAt (take_memory fs) (ReadsValue (FitsAt fs i)) (ItemFault fs i) mid e new
+      → RefusesAt (take_memory fs) (FieldsRead fs) (FieldsFault fs) st e new
   item_refused st n i v mid e new l k going h r =
       refused_later (ReadsValue (FitsAt fs i)) (ItemFault fs i) (FieldsRead fs) (FieldsFault fs) st mid e new (λ t. t)
       (so_far_failed st n i v mid h) (so_far_going st n i v mid h) going
-      (λ f. at_item h l k f)
+      (λ _. at_item h l k)
       (λ none w b q.
       let g = further st n i v w mid b h q in
       let x = next_fits i h.terms q.terms g.others mid g.last g.bytes w (h.long ∙ omega (arith, l)) (omega (arith, g.count, l)) k
@@ -157,15 +159,16 @@ module _ {V : Type 0} (fs : Fields V) where
 
   -- a required item is left out
   pub left_out_refused : (st : State) (n i : ℕ) (v : V) (mid : State) (e : Error) (new : State) → n ≤ i → i < length (rules_of (slots fs))
-      → {error : Error} → absence (rule_at fs i) ≡ Some error → RefusesBy error mid e new → FieldsSoFar fs st n i v mid
-      → RefusesRead (take_memory fs) (FieldsRead fs) (FieldsFault fs) st e new
-  left_out_refused st n i v mid e new l k by refused h =
+      → {error : Error} → absence (rule_at fs i) ≡ Some error → RefusesBy error mid e new → StandsHere mid new → FieldsSoFar fs st n i v mid
+      → RefusesAt (take_memory fs) (FieldsRead fs) (FieldsFault fs) st e new
+  left_out_refused st n i v mid e new l k by refused here h =
       let going = so_far_still st n i v mid h in
       let is = by ∙ ap Some (sym (refused going).0) in
       record {
         kept = answered_later (so_far_failed st n i v mid h) (first_kept {st = mid} going refused);
         again = λ d x. absurd (let y = so_far_going st n i v mid h in cc);
-        named = λ _. inr (left_out h l k is);
+        named = λ _. inr (length mid.rest, left_out h l k is refl,
+            before_later st mid (length mid.rest) new (so_far_failed st n i v mid h) (here going));
         none = inr (λ w b q.
             let g = further st n i v w mid b h q in
             fits_null fs i q.terms w Mandatory q.fits k (absent (rule_at fs i) e is)
@@ -179,12 +182,12 @@ module _ {V : Type 0} (fs : Fields V) where
   -- the list couldn't be closed
   end_refused : (st : State) (n i : ℕ) (v : V) (mid : State) (e : Error) (new : State) → i ≡ length (rules_of (slots fs))
       → mid.error ≡ None → FieldsSoFar fs st n i v mid
-      → RefusesRead false (λ st (_ : Unit {0}) b. Closes InList st b) (CloseFault InList) mid e new
-      → RefusesRead (take_memory fs) (FieldsRead fs) (FieldsFault fs) st e new
+      → RefusesAt false (λ st (_ : Unit {0}) b. Closes InList st b) (Here (CloseFault InList)) mid e new
+      → RefusesAt (take_memory fs) (FieldsRead fs) (FieldsFault fs) st e new
   end_refused st n i v mid e new all going h r =
-      refused_later (λ st (_ : Unit {0}) b. Closes InList st b) (CloseFault InList) (FieldsRead fs) (FieldsFault fs) st mid e new no_memory
+      refused_later (λ st (_ : Unit {0}) b. Closes InList st b) (Here (CloseFault InList)) (FieldsRead fs) (FieldsFault fs) st mid e new no_memory
       (so_far_failed st n i v mid h) (so_far_going st n i v mid h) going
-      (λ f. not_ended (subst (λ k. FieldsSoFar fs st n k v mid) all h) f)
+      (λ _ f. not_ended (subst (λ k. FieldsSoFar fs st n k v mid) all h) f)
       (λ none w b q.
       let g = further st n i v w mid b h q in
       let few = fits_few fs q.terms w q.fits in
@@ -204,16 +207,16 @@ module _ {V : Type 0} (fs : Fields V) where
 
   -- the list was closed, or couldn't be
   pub all_filled : (st : State) (n i : ℕ) (v : V) (mid : State) (r : Result (Unit {0}) Error) (b : State) → i ≡ length (rules_of (slots fs))
-      → FieldsSoFar fs st n i v mid → AnswersRead false (λ st (_ : Unit {0}) b. Closes InList st b) (CloseFault InList) mid r b
+      → FieldsSoFar fs st n i v mid → AnswersAt false (λ st (_ : Unit {0}) b. Closes InList st b) (Here (CloseFault InList)) mid r b
       → FillsAll fs v st r b
   all_filled st n i v mid (Ok u) b all h c = all_read st n i v mid b all h c
   all_filled st n i v mid (Err e) b all h c = end_refused st n i v mid e b all (so_far_still st n i v mid h) h c
 
   -- the list couldn't be opened
-  pub open_refused : (st : State) (e : Error) (new : State) → RefusesRead false (Opens list) (OpenFault list) st e new
-      → RefusesRead (take_memory fs) (FieldsRead fs) (FieldsFault fs) st e new
+  pub open_refused : (st : State) (e : Error) (new : State) → RefusesAt false (Opens list) (Here (OpenFault list)) st e new
+      → RefusesAt (take_memory fs) (FieldsRead fs) (FieldsFault fs) st e new
   open_refused st e new r =
-      refused_first (Opens list) (OpenFault list) (FieldsRead fs) (FieldsFault fs) st e new no_memory no_list
+      refused_first (Opens list) (Here (OpenFault list)) (FieldsRead fs) (FieldsFault fs) st e new no_memory (λ _. no_list)
       (λ none w b q. none q.stand.count q.stand.mid q.stand.opened) r
 
   pub none_so_far : (st : State) (n : ℕ) (v : V) (first : State) → Opens list st n first → IsBlank fs v → FieldsSoFar fs st n 0 v first
@@ -222,10 +225,10 @@ module _ {V : Type 0} (fs : Fields V) where
 
 -- Steps of one item.
 module _ {V : Type 0} (fs : Fields V) (i : ℕ) where
-  pub item_unbegun : (st : State) (e : Error) (new : State) → RefusesRead false TakesNull BeginFault st e new
-      → RefusesRead (take_memory fs) (ReadsValue (FitsAt fs i)) (ItemFault fs i) st e new
+  pub item_unbegun : (st : State) (e : Error) (new : State) → RefusesAt false TakesNull (Here BeginFault) st e new
+      → RefusesAt (take_memory fs) (ReadsValue (FitsAt fs i)) (ItemFault fs i) st e new
   item_unbegun st e new r =
-      refused_first TakesNull BeginFault (ReadsValue (FitsAt fs i)) (ItemFault fs i) st e new no_memory no_item
+      refused_first TakesNull (Here BeginFault) (ReadsValue (FitsAt fs i)) (ItemFault fs i) st e new no_memory (λ _. no_item)
       (value_untaken (FitsAt fs i) st) r
 
   -- null was taken, and fits
@@ -235,14 +238,15 @@ module _ {V : Type 0} (fs : Fields V) (i : ℕ) where
 
   -- null was taken, and doesn't fit
   pub null_unfit : (st b : State) (e : Error) (new : State) {error : Error} → absence (rule_at fs i) ≡ Some error → RefusesBy error b e new
-      → ReadsValue (Means (λ (_ : Unit {0}). null)) st tt b
-      → RefusesRead (take_memory fs) (ReadsValue (FitsAt fs i)) (ItemFault fs i) st e new
-  null_unfit st b e new by refused h =
+      → (b.error ≡ None → StandsBefore (suc (length b.rest)) b new) → ReadsValue (Means (λ (_ : Unit {0}). null)) st tt b
+      → RefusesAt (take_memory fs) (ReadsValue (FitsAt fs i)) (ItemFault fs i) st e new
+  null_unfit st b e new by refused before h =
       let is = by ∙ ap Some (sym (refused (value_going h)).0) in
       record {
         kept = answered_later (ap (λ (x : State). x.failed) h.moved) (first_kept {st = b} (value_going h) refused);
         again = λ d x. absurd (let going = h.stands.going in cc);
-        named = λ _. inr (null_item h is);
+        named = λ _. inr (suc (length b.rest), null_item h is refl,
+            before_later st b (suc (length b.rest)) new (ap (λ (x : State). x.failed) h.moved) (before (value_going h)));
         none = inr (λ w c k.
             let o = stands_same st h.bytes k.bytes h.term k.term h.stands k.stands in
             let z : is_null k.term ≡ true = ap is_null (sym o.1 ∙ h.meant) in
@@ -252,10 +256,12 @@ module _ {V : Type 0} (fs : Fields V) (i : ℕ) where
   -- null was taken, and fits or not
   pub null_step : (v : V) (st mid : State) (r : Result (Unit {0}) Error) (b : State) (k : FieldRule) → k ≡ rule_at fs i
       → ReadsValue (Means (λ (_ : Unit {0}). null)) st tt mid → IfOk r (λ _. (absence k ≡ None) × (b ≡ mid))
-      → IfErr r (λ e. (error : Error) × (absence k ≡ Some error) × RefusesBy error mid e b) → ReadsItem fs i v v st r b
-  null_step v st mid (Ok u) b k its h (fits, same) e =
+      → IfErr r (λ e. (error : Error) × (absence k ≡ Some error) × RefusesBy error mid e b)
+      → IfErr r (λ _. mid.error ≡ None → StandsBefore (suc (length mid.rest)) mid b) → ReadsItem fs i v v st r b
+  null_step v st mid (Ok u) b k its h (fits, same) e before =
       subst (ItemRead fs i v v st) (sym same) (null_read v st mid (not_absent _ (ap absence (sym its) ∙ fits)) h)
-  null_step v st mid (Err e) b k its h o (error, is, refused) = null_unfit st mid e b (ap absence (sym its) ∙ is) refused h
+  null_step v st mid (Err e) b k its h o (error, is, refused) before =
+      null_unfit st mid e b (ap absence (sym its) ∙ is) refused before h
 
   -- the field was filled
   pub value_read : (v w : V) (st mid b : State) (c : ℕ) → PeeksCode st c mid → ReadsValue (MeansAt fs i) mid w b → KeepsBut fs i v w
@@ -266,12 +272,12 @@ module _ {V : Type 0} (fs : Fields V) (i : ℕ) where
 
   -- the field wasn't filled
   pub value_refused : (st mid : State) (c : ℕ) (e : Error) (new : State) → PeeksCode st c mid → (c ≡ 0x40 → ⊥)
-      → RefusesRead (take_memory fs) (ReadsValue (MeansAt fs i)) (FaultAt fs i) mid e new
-      → RefusesRead (take_memory fs) (ReadsValue (FitsAt fs i)) (ItemFault fs i) st e new
+      → RefusesAt (take_memory fs) (ReadsValue (MeansAt fs i)) (FaultAt fs i) mid e new
+      → RefusesAt (take_memory fs) (ReadsValue (FitsAt fs i)) (ItemFault fs i) st e new
   value_refused st mid c e new p other r =
       let going = peeked_going st c mid p in
       refused_later (ReadsValue (MeansAt fs i)) (FaultAt fs i) (ReadsValue (FitsAt fs i)) (ItemFault fs i) st mid e new (λ t. t)
-      (peeked_failed st c mid p) going.0 going.1 (in_item p other)
+      (peeked_failed st c mid p) going.0 going.1 (λ _. in_item p other)
       (λ none w b h.
       let n = not_null (FitsAt fs i) st c mid w b p other h in
       elim h.meant [

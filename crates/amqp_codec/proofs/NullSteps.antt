@@ -8,6 +8,8 @@ use Rattle.amqp_decoder.specs.State.{State}
 use Rattle.amqp_decoder.specs.Reading.{RefusesRead, ReadsCode, BeginFault, PeeksCode, after_peek}
 use Rattle.amqp_decoder.specs.Primitives.{ReadsValue, Means}
 use Rattle.amqp_decoder.proofs.ReadPrimitives.{code_value}
+use Rattle.amqp_decoder.specs.Places.{Here, RefusesAt, StandsHere}
+use Rattle.amqp_decoder.proofs.Places.{refused_here}
 use Rattle.amqp_codec.specs.FieldReading.{TakesNull}
 use Rattle.amqp_codec.specs.laws.Refusal.{NoneStands, no_memory, refused_first}
 use Rattle.amqp_codec.specs.laws.Peek.{stands_begun, value_peeked}
@@ -32,6 +34,7 @@ none_taken st none true b h = value_peeked (Means (λ (_ : Unit {0}). null)) st 
 none_taken st none false b h = none h.0 b h.1
 
 -- nothing begins there
-pub unpeeked : (st : State) (e : Error) (new : State) → RefusesRead false PeeksCode BeginFault st e new
-    → RefusesRead false TakesNull BeginFault st e new
-unpeeked st e new r = refused_first PeeksCode BeginFault TakesNull BeginFault st e new no_memory (λ f. f) (none_taken st) r
+pub unpeeked : (st : State) (e : Error) (new : State) → RefusesRead false PeeksCode BeginFault st e new → StandsHere st new
+    → RefusesAt false TakesNull (Here BeginFault) st e new
+unpeeked st e new r here =
+    refused_first PeeksCode (Here BeginFault) TakesNull (Here BeginFault) st e new no_memory (λ _ f. f) (none_taken st) (refused_here r here)

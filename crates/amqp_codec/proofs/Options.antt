@@ -9,15 +9,16 @@ use Rattle.amqp_decoder.specs.Reading.{RefusesRead, PeeksCode}
 use Rattle.amqp_decoder.specs.Primitives.{ReadsValue, Means, PrimitiveFault}
 use Rattle.amqp_decoder.proofs.Steps.{answered_later}
 use Rattle.amqp_decoder.proofs.Peeks.{value-peeked}
+use Rattle.amqp_decoder.specs.Places.{Located, RefusesAt}
 use Rattle.amqp_codec.specs.TermType.{TermType}
 use Rattle.amqp_codec.specs.OptionMeaning.{MeansOption, OptionFault}
 use Rattle.amqp_codec.specs.laws.Refusal.{excused_as, no_memory, NoneStands, refused_later}
 use Rattle.amqp_codec.specs.laws.Peek.{peeked_failed, peeked_going, null_there, not_null}
 
 -- a null that was looked at can't be refused but for the source
-pub null_refused : {B : Type 0} {takes : Bool} (q : State → B → State → Type 0) (g : State → Error → Type 0) (st : State) (c : ℕ)
+pub null_refused : {B : Type 0} {takes : Bool} (q : State → B → State → Type 0) (g : State → Located → Type 0) (st : State) (c : ℕ)
     (mid : State) (e : Error) (new : State) → PeeksCode st c mid → c ≡ 0x40
-    → RefusesRead false (ReadsValue (Means (λ (_ : Unit {0}). null))) (PrimitiveFault 0) mid e new → RefusesRead takes q g st e new
+    → RefusesRead false (ReadsValue (Means (λ (_ : Unit {0}). null))) (PrimitiveFault 0) mid e new → RefusesAt takes q g st e new
 null_refused q g st c mid e new p is h =
     let at : PeeksCode st 0x40 mid = subst (λ x. PeeksCode st x mid) is p in
     let going = peeked_going st 0x40 mid at in
@@ -57,11 +58,11 @@ module _ {T : Type 0} (u : TermType T) where
       none v b ((value-peeked u.means st mid b c v p).1 k)
 
   pub some_refused : (st : State) (c : ℕ) (mid : State) (e : Error) (new : State) → PeeksCode st c mid → (c ≡ 0x40 → ⊥)
-      → RefusesRead u.takes_memory (ReadsValue u.means) u.faults.fault mid e new
-      → RefusesRead u.takes_memory (ReadsValue (MeansOption u.means)) (OptionFault u.faults.fault) st e new
+      → RefusesAt u.takes_memory (ReadsValue u.means) u.faults.fault mid e new
+      → RefusesAt u.takes_memory (ReadsValue (MeansOption u.means)) (OptionFault u.faults.fault) st e new
   some_refused st c mid e new p other h =
       let going = peeked_going st c mid p in
       refused_later (ReadsValue u.means) u.faults.fault (ReadsValue (MeansOption u.means))
       (OptionFault u.faults.fault) st mid e new (λ t. t)
       (peeked_failed st c mid p) going.0 going.1
-      (λ f. inr (c, mid, p, other, f)) (none_stands st c mid p other) h
+      (λ _ f. inr (c, mid, p, other, f)) (none_stands st c mid p other) h

@@ -3,7 +3,7 @@ use Rattle.std.proofs.Common.{◌≡◌, inl, inr, ℕ, zero, suc, Bool, true, f
 use Rattle.amqp_wire.specs.declared.error.Error.{Error}
 use Rattle.amqp_wire.specs.declared.error.Error.TheVariants.{Limit}
 use Rattle.amqp_decoder.specs.State.{State}
-use Rattle.amqp_decoder.specs.Steps.{IsOutside, RefusesBy, Began, Refused, Tries, Passed}
+use Rattle.amqp_decoder.specs.Steps.{unsized, IsOutside, RefusesBy, Began, Refused, Tries, Passed}
 use Rattle.amqp_decoder.specs.Misspelled.{IsMisspelling}
 use Rattle.amqp_decoder.proofs.NotOutside.{read_is_outside}
 use Rattle.amqp_model.specs.declared.tables.FieldRule.{FieldRule}
@@ -82,7 +82,7 @@ refused_by takes a b error e c plain other h r =
       λ d x. absurd (let y = h.0 in cc),
       λ going. (
         ap (λ (s : State). s.error) k.1 ∙ ap Some (sym k.0),
-        inl (ap (λ (s : State). s.failed) k.1 ∙ h.2),
+        inl (ap (λ (s : State). unsized s.failed) k.1 ∙ h.2),
         λ m. absurd (out (subst IsOutside (sym m) tt)),
         λ i. absurd (out (read_is_outside e i)),
         λ l. absurd (other (sym k.0 ∙ l)),

@@ -15,6 +15,7 @@ use Rattle.amqp_codec.specs.FieldReading.{FieldsRead}
 use Rattle.amqp_codec.specs.Members.{Members}
 use Rattle.amqp_codec.specs.Fields.{Fields, slots, take_memory}
 use Rattle.amqp_codec.specs.laws.Descriptor.{descriptor_short}
+use Rattle.amqp_codec.specs.laws.FieldPlaces.{fields_shrink}
 
 -- What describes a composite: a code, which takes two bytes at most, and a name.
 pub record Names : Type 0 where
@@ -68,6 +69,7 @@ composite_members c = record {
   takes_at = λ i. take_memory c.fields;
   takes_memory = take_memory c.fields;
   takes = λ i h. h;
+  shrinks = λ i. fields_shrink c.fields;
   reads_elsewhere = λ s i. fields_read s c.fields;
 }
 

@@ -4,9 +4,9 @@ use Rattle.amqp_model.specs.Term.{Term}
 use Rattle.amqp_model.specs.Standing.{Standing}
 use Rattle.amqp_model.specs.Text.{form}
 use Rattle.amqp_model.specs.FieldType.{Norm, normal, unchanged, by_norm}
-use Rattle.amqp_wire.specs.declared.error.Error.{Error}
 use Rattle.amqp_decoder.specs.State.{State}
 use Rattle.amqp_decoder.specs.Reading.{BeginFault, PeeksCode}
+use Rattle.amqp_decoder.specs.Places.{Located, Here}
 use Rattle.amqp_codec.specs.Faults.{Faults}
 use Rattle.amqp_codec.specs.TermType.{TermType}
 
@@ -40,7 +40,7 @@ module _ {A B : Type 0} (u : TermType A) (w : TermType B) where
 
 -- Why no value of two types that are told from each other by the first code is read: none begins, or what begins by a
 -- code of the first type has a fault of that one, and what begins by another code a fault of the second.
-pub data EitherFault (is_first : ℕ → Bool) (f g : Faults) (st : State) (e : Error) : Type 0 where
-  no_value : BeginFault st e → EitherFault is_first f g st e
+pub data EitherFault (is_first : ℕ → Bool) (f g : Faults) (st : State) (e : Located) : Type 0 where
+  no_value : Here BeginFault st e → EitherFault is_first f g st e
   in_first : {c : ℕ} {mid : State} → PeeksCode st c mid → is_first c ≡ true → f.fault mid e → EitherFault is_first f g st e
   in_second : {c : ℕ} {mid : State} → PeeksCode st c mid → is_first c ≡ false → g.fault mid e → EitherFault is_first f g st e

@@ -3,7 +3,7 @@ use Rattle.std.proofs.Common.{◌⊎◌, ℕ, Bool, ◌&&◌, ◌||◌}
 use Rattle.amqp_codec.specs.Faults.{Faults}
 use Rattle.amqp_codec.specs.TermType.{TermType}
 use Rattle.amqp_codec.specs.EitherMeaning.{either, IsEither, SameEither, norm_either, FormsApart, EitherFault}
-use Rattle.amqp_codec.specs.laws.EitherType.{either_refl, either_sym, either_trans, either_agrees, either_one, either_rewrites}
+use Rattle.amqp_codec.specs.laws.EitherType.{either_refl, either_sym, either_trans, either_agrees, either_one, either_rewrites, either_within}
 use Rattle.amqp_codec.specs.laws.EitherType.{either_norm_norm, either_meant, either_own, either_never_null, either_formed, either_ignores}
 use Rattle.amqp_codec.specs.laws.EitherType.{either_least, either_not_outside, either_elsewhere, either_misspelled}
 
@@ -14,6 +14,7 @@ module _ (is_first : ℕ → Bool) (f g : Faults) where
     not_outside = λ e out. either_not_outside is_first f g out;
     fault_elsewhere = either_elsewhere is_first f g;
     misspelled = either_misspelled is_first f g;
+    within = either_within is_first f g;
   }
 
 -- A sum of two types: which errors its reading may answer hangs on how the one is told from the other.

@@ -12,10 +12,11 @@ use Rattle.amqp_wire.specs.declared.error.Error.TheVariants.{Missing, EmptyMulti
 use Rattle.amqp_model.specs.declared.tables.FieldRule.TheVariants.{Mandatory, MandatoryMultiple}
 use Rattle.amqp_decoder.specs.declared.frame.Place.TheVariants.{InList}
 use Rattle.amqp_decoder.specs.State.{State, after_value, weight_at}
-use Rattle.amqp_decoder.specs.Reading.{RefusesRead, BeginFault, PeeksCode}
+use Rattle.amqp_decoder.specs.Reading.{BeginFault, PeeksCode}
 use Rattle.amqp_decoder.specs.Primitives.{standing, Stands, ReadsValue, Means}
 use Rattle.amqp_decoder.specs.Containers.{Opens, OpenFault, CloseFault}
 use Rattle.amqp_decoder.specs.Items.{Row, Contains}
+use Rattle.amqp_decoder.specs.Places.{Located, Here, RefusesAt}
 use Rattle.amqp_codec.specs.Fields.{Fields, none, field, slots, take_memory}
 
 -- all fields are equal
@@ -35,10 +36,10 @@ IsBlank none v = Unit {0}
 IsBlank (field get f fs) v = (is_required f.slot.rule ≡ false → f.slot.meaning.means (leaf null) (get v)) × IsBlank fs v
 
 -- A value was read into its place.
-abbrev pub Fills : {T : Type 0} → Bool → (Standing → Term → T → Type 0) → (State → Error → Type 0) → State → T
+abbrev pub Fills : {T : Type 0} → Bool → (Standing → Term → T → Type 0) → (State → Located → Type 0) → State → T
     → Result (Unit {0}) Error → State → Type 0
 Fills takes reads fault st x (Ok u) b = ReadsValue reads st x b
-Fills takes reads fault st x (Err e) b = RefusesRead takes (ReadsValue reads) fault st e b
+Fills takes reads fault st x (Err e) b = RefusesAt takes (ReadsValue reads) fault st e b
 
 -- A value that isn't null was read into the field of this number, and then the others stay.
 abbrev pub FillsField : {V : Type 0} → Fields V → ℕ → V → V → State → Result (Unit {0}) Error → State → Type 0
@@ -52,7 +53,7 @@ MeansAt none i s t v = ⊥
 MeansAt (field get f fs) zero s t v = f.reads s t (get v)
 MeansAt (field get f fs) (suc i) s t v = MeansAt fs i s t v
 
-abbrev pub FaultAt : {V : Type 0} → Fields V → ℕ → State → Error → Type 0
+abbrev pub FaultAt : {V : Type 0} → Fields V → ℕ → State → Located → Type 0
 FaultAt none i st e = ⊥
 FaultAt (field get f fs) zero st e = f.faults.fault st e
 FaultAt (field get f fs) (suc i) st e = FaultAt fs i st e
@@ -89,14 +90,15 @@ absence _ = None
 
 -- Why an item isn't read into its field: none begins, it is null where that doesn't fit, or it isn't null and the type of the
 -- field says.
-pub data ItemFault {V : Type 0} (fs : Fields V) (i : ℕ) (st : State) (e : Error) : Type 0 where
-  no_item : BeginFault st e → ItemFault fs i st e
-  null_item : {b : State} → ReadsValue (Means (λ (_ : Unit {0}). null)) st tt b → absence (rule_at fs i) ≡ Some e → ItemFault fs i st e
+pub data ItemFault {V : Type 0} (fs : Fields V) (i : ℕ) (st : State) (e : Located) : Type 0 where
+  no_item : Here BeginFault st e → ItemFault fs i st e
+  null_item : {b : State} → ReadsValue (Means (λ (_ : Unit {0}). null)) st tt b → absence (rule_at fs i) ≡ Some e.error
+      → e.left ≡ suc (length b.rest) → ItemFault fs i st e
   in_item : {c : ℕ} {mid : State} → PeeksCode st c mid → (c ≡ 0x40 → ⊥) → FaultAt fs i mid e → ItemFault fs i st e
 
 abbrev pub ReadsItem : {V : Type 0} → Fields V → ℕ → V → V → State → Result (Unit {0}) Error → State → Type 0
 ReadsItem fs i v w st (Ok u) b = ItemRead fs i v w st b
-ReadsItem fs i v w st (Err e) b = RefusesRead (take_memory fs) (ReadsValue (FitsAt fs i)) (ItemFault fs i) st e b
+ReadsItem fs i v w st (Err e) b = RefusesAt (take_memory fs) (ReadsValue (FitsAt fs i)) (ItemFault fs i) st e b
 
 -- A null stood next and was taken, or what stands next begins by another code, and nothing is taken.
 abbrev pub TakesNull : State → Bool → State → Type 0
@@ -120,16 +122,16 @@ pub record FieldsRead {V : Type 0} (fs : Fields V) (st : State) (v : V) (b : Sta
   pub fits : Fits (slots fs) terms v
 
 -- Why no fields are read.
-pub data FieldsFault {V : Type 0} (fs : Fields V) (st : State) (e : Error) : Type 0 where
-  no_list : OpenFault list st e → FieldsFault fs st e
+pub data FieldsFault {V : Type 0} (fs : Fields V) (st : State) (e : Located) : Type 0 where
+  no_list : Here (OpenFault list) st e → FieldsFault fs st e
   at_item : {n i : ℕ} {v : V} {mid : State} → FieldsSoFar fs st n i v mid → i < n → i < length (rules_of (slots fs))
       → ItemFault fs i mid e → FieldsFault fs st e
   left_out : {n i : ℕ} {v : V} {mid : State} → FieldsSoFar fs st n i v mid → n ≤ i → i < length (rules_of (slots fs))
-      → absence (rule_at fs i) ≡ Some e → FieldsFault fs st e
+      → absence (rule_at fs i) ≡ Some e.error → e.left ≡ length mid.rest → FieldsFault fs st e
   not_ended : {n : ℕ} {v : V} {mid : State} → FieldsSoFar fs st n (length (rules_of (slots fs))) v mid
-      → CloseFault InList mid e → FieldsFault fs st e
+      → Here (CloseFault InList) mid e → FieldsFault fs st e
 
 -- All fields were read into their places.
 abbrev pub FillsAll : {V : Type 0} → Fields V → V → State → Result (Unit {0}) Error → State → Type 0
 FillsAll fs w st (Ok u) b = FieldsRead fs st w b
-FillsAll fs w st (Err e) b = RefusesRead (take_memory fs) (FieldsRead fs) (FieldsFault fs) st e b
+FillsAll fs w st (Err e) b = RefusesAt (take_memory fs) (FieldsRead fs) (FieldsFault fs) st e b

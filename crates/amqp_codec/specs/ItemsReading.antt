@@ -1,5 +1,5 @@
 -- How the items of a list or an array are read, one after another.
-use Rattle.std.specs.Prelude.{◌≡◌, ℕ, ◌<◌, List, [], ◌∷◌, length, Some, None}
+use Rattle.std.specs.Prelude.{◌≡◌, ℕ, ◌<◌, ◌≤◌, List, [], ◌∷◌, length, Some, None}
 use Rattle.amqp_model.specs.Term.{Container, Term, Terms, container}
 use Rattle.amqp_model.specs.Items.{items_of}
 use Rattle.amqp_model.specs.Standing.{Standing}
@@ -12,6 +12,7 @@ use Rattle.amqp_decoder.specs.Primitives.{ReadsValue}
 use Rattle.amqp_decoder.specs.Containers.{place_of, Closes, CloseFault}
 use Rattle.amqp_decoder.specs.Items.{Next, NextWithParts, Row, row_standings}
 use Rattle.amqp_decoder.specs.Steps.{IsOutside}
+use Rattle.amqp_decoder.specs.Places.{Located, Here}
 use Rattle.amqp_codec.specs.Each.{IsListOrArray}
 
 -- The values were read one after another.
@@ -25,8 +26,8 @@ pub record ReadsRow {T : Type 0} (n : ℕ) (means : Standing → Term → T → 
   pub each : ReadsEach (ReadsValue means) st vs b
 
 -- Why so many aren't read: behind fewer that are, the next one isn't.
-pub record RowFault {T : Type 0} (n : ℕ) (means : Standing → Term → T → Type 0) (fault : State → Error → Type 0) (st : State)
-    (e : Error) : Type 0 where
+pub record RowFault {T : Type 0} (n : ℕ) (means : Standing → Term → T → Type 0) (fault : State → Located → Type 0) (st : State)
+    (e : Located) : Type 0 where
   pub before : List T
   pub mid : State
   pub each : ReadsEach (ReadsValue means) st before mid
@@ -49,7 +50,7 @@ pub record Opening : Type 1 where
   pub is_list_or_array : IsListOrArray kind
   -- one of so many items was opened; or why none is
   pub opens : State → ℕ → State → Type 0
-  pub fault : State → Error → Type 0
+  pub fault : State → Located → Type 0
   -- where this holds, one that stands there can be opened
   pub fits : State → Type 0
   -- the laws: it is opened in one way, where nothing was refused and without a failure of the source
@@ -64,10 +65,12 @@ pub record Opening : Type 1 where
       → NextWithParts st (container kind ts) (row_standings h.first (items_of ts) h.bytes h.last h.row) st'
   pub held : (st : State) (ts : Terms) (st' : State) → fits st → Next st (container kind ts) st' → Held kind opens st (items_of ts) st'
   -- of the faults, of another source and of what is no term
-  pub not_outside : (e : Error) → IsOutside e → (st : State) → fault st e → ⊥
+  pub not_outside : (e : Located) → IsOutside e.error → (st : State) → fault st e → ⊥
   pub opens_elsewhere : (c : Setting) (st : State) (n : ℕ) (first : State) → opens st n first → opens (under c st) n (under c first)
-  pub fault_elsewhere : (c : Setting) (st : State) (e : Error) → KeepsError c e → fault st e → fault (under c st) e
-  pub misspelled : (st : State) (e : Error) → HasRoom st → IsMisspelling e → fault st e → NothingStands st
+  pub fault_elsewhere : (c : Setting) (st : State) (e : Located) → KeepsError c e.error → fault st e → fault (under c st) e
+  pub misspelled : (st : State) (e : Located) → HasRoom st → IsMisspelling e.error → fault st e → NothingStands st
+  pub within : (st : State) (e : Located) → fault st e → e.left ≤ length st.rest
+  pub shrinks : (st : State) (n : ℕ) (first : State) → opens st n first → length first.rest ≤ length st.rest
   pub nothing_in : (st : State) (n : ℕ) (first mid : State) (ts : List Term) (b : List ℕ) → HasRoom st → opens st n first
       → Row first ts b mid → length ts < n → NothingStands mid → NothingStands st
   pub nothing_at_end : (st : State) (n : ℕ) (first last : State) (ts : List Term) (b : List ℕ) (e : Error) → HasRoom st → opens st n first
@@ -83,9 +86,9 @@ pub record ItemsRead {T : Type 0} (o : Opening) (means : Standing → Term → T
   pub closed : Closes (place_of o.kind) last b
 
 -- Why its items aren't read: it isn't opened; or an item isn't read behind those that are; or it isn't closed behind them all.
-pub data ItemsFault {T : Type 0} (o : Opening) (means : Standing → Term → T → Type 0) (fault : State → Error → Type 0) (st : State)
-    (e : Error) : Type 0 where
+pub data ItemsFault {T : Type 0} (o : Opening) (means : Standing → Term → T → Type 0) (fault : State → Located → Type 0) (st : State)
+    (e : Located) : Type 0 where
   unopened : o.fault st e → ItemsFault o means fault st e
   at_item : {n : ℕ} {first : State} → o.opens st n first → RowFault n means fault first e → ItemsFault o means fault st e
   unclosed : {n : ℕ} {first : State} {vs : List T} {last : State} → o.opens st n first → ReadsRow n means first vs last
-      → CloseFault (place_of o.kind) last e → ItemsFault o means fault st e
+      → Here (CloseFault (place_of o.kind)) last e → ItemsFault o means fault st e

@@ -4,9 +4,9 @@ use Rattle.amqp_model.specs.Term.{Term}
 use Rattle.amqp_model.specs.Standing.{Standing}
 use Rattle.amqp_model.specs.Items.{is_null}
 use Rattle.amqp_model.specs.FieldType.{Norm, unchanged, by_norm}
-use Rattle.amqp_wire.specs.declared.error.Error.{Error}
 use Rattle.amqp_decoder.specs.State.{State}
 use Rattle.amqp_decoder.specs.Reading.{BeginFault, PeeksCode}
+use Rattle.amqp_decoder.specs.Places.{Located, Here}
 
 -- Null means none, and another term what the type takes.
 abbrev pub MeansOption : {T : Type 0} → (Standing → Term → T → Type 0) → Standing → Term → Option T → Type 0
@@ -14,8 +14,8 @@ MeansOption means s t None = is_null t ≡ true
 MeansOption means s t (Some v) = (is_null t ≡ false) × means s t v
 
 -- No value begins, or what begins there isn't null and has the fault.
-abbrev pub OptionFault : (State → Error → Type 0) → State → Error → Type 0
-OptionFault fault st e = BeginFault st e ⊎ ((c : ℕ) × (mid : State) × PeeksCode st c mid × (c ≡ 0x40 → ⊥) × fault mid e)
+abbrev pub OptionFault : (State → Located → Type 0) → State → Located → Type 0
+OptionFault fault st e = Here BeginFault st e ⊎ ((c : ℕ) × (mid : State) × PeeksCode st c mid × (c ≡ 0x40 → ⊥) × fault mid e)
 
 abbrev pub keep : {T : Type 0} → Bool → T → Option T
 keep true v = None

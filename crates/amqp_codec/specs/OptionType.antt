@@ -6,7 +6,7 @@ use Rattle.amqp_model.specs.laws.Option.{option_refl, option_sym, option_trans}
 use Rattle.amqp_codec.specs.Faults.{Faults}
 use Rattle.amqp_codec.specs.TermType.{TermType}
 use Rattle.amqp_codec.specs.OptionMeaning.{MeansOption, OptionFault, norm_option, count_option}
-use Rattle.amqp_codec.specs.laws.OptionType.{option_not_outside, option_elsewhere, option_misspelled, option_agrees, option_one}
+use Rattle.amqp_codec.specs.laws.OptionType.{option_not_outside, option_elsewhere, option_misspelled, option_agrees, option_one, option_within}
 use Rattle.amqp_codec.specs.laws.OptionType.{option_rewrites, option_norm_norm, option_own, option_meant, option_formed, option_ignores}
 use Rattle.amqp_codec.specs.laws.OptionType.{option_least}
 
@@ -16,6 +16,7 @@ option_faults f = record {
   not_outside = λ e out. option_not_outside e out f;
   fault_elsewhere = option_elsewhere f;
   misspelled = option_misspelled f;
+  within = option_within f;
 }
 
 abbrev pub option_of : {T : Type 0} → TermType T → TermType (Option T)

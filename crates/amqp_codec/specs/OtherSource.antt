@@ -7,6 +7,7 @@ use Rattle.amqp_codec.specs.laws.FieldReading.{fields_not_outside}
 use Rattle.amqp_codec.specs.Members.{Members, MemberFault}
 use Rattle.amqp_codec.specs.laws.Members.{member_not_outside}
 use Rattle.amqp_codec.specs.laws.OtherSource.{fields_fault, member_fault}
+use Rattle.amqp_codec.specs.laws.FieldPlaces.{fields_within, member_within}
 
 -- Why the fields of a table aren't read.
 abbrev pub fields_faults : {V : Type 0} → Fields V → Faults
@@ -15,6 +16,7 @@ fields_faults fs = record {
   not_outside = λ e out. fields_not_outside out fs;
   fault_elsewhere = λ c st e keeps. fields_fault c e keeps fs st;
   misspelled = fields_misspelled fs;
+  within = λ st e. fields_within e fs st;
 }
 
 -- Why none of the members is read.
@@ -24,4 +26,5 @@ member_faults m = record {
   not_outside = λ e out. member_not_outside out m;
   fault_elsewhere = λ c st e keeps. member_fault c e keeps m st;
   misspelled = member_misspelled m;
+  within = λ st e. member_within e m st;
 }

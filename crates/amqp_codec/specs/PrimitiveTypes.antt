@@ -10,10 +10,12 @@ use Rattle.amqp_decoder.specs.Primitives.{PrimitiveFault}
 use Rattle.amqp_decoder.proofs.NotOutside.{primitive_not_outside}
 use Rattle.amqp_decoder.proofs.Misspelled.{primitive_misspelled}
 use Rattle.amqp_decoder.specs.laws.OtherSource.{primitive_fault}
+use Rattle.amqp_decoder.specs.Places.{Here}
 use Rattle.amqp_codec.specs.ExactType.{MeansExactly, IsExact, exact}
 use Rattle.amqp_codec.specs.Faults.{Faults}
 use Rattle.amqp_codec.specs.laws.PrimitiveTerm.{leaf_injective, leaf_writable}
 use Rattle.amqp_codec.specs.TermType.{TermType, view_of, equality}
+use Rattle.amqp_codec.specs.laws.Within.{here_within}
 
 -- The values of A in the range are the primitives of one kind, which are null or not.
 pub record IsKind {A : Type 0} (make : A → Primitive) (range : A → Type 0) (is_never_null : Bool) : Type 0 where
@@ -24,10 +26,11 @@ pub record IsKind {A : Type 0} (make : A → Primitive) (range : A → Type 0) (
 -- Why no primitive of a kind is read.
 abbrev pub primitive_faults : ℕ → Faults
 primitive_faults k = record {
-  fault = PrimitiveFault k;
-  not_outside = λ e out. primitive_not_outside out k;
-  fault_elsewhere = λ c st e. primitive_fault c;
-  misspelled = λ st e _ i. primitive_misspelled k st e i;
+  fault = Here (PrimitiveFault k);
+  not_outside = λ e out st h. primitive_not_outside out k st h.0;
+  fault_elsewhere = λ c st e keeps h. (primitive_fault c keeps h.0, h.1);
+  misspelled = λ st e _ i h. primitive_misspelled k st e.error i h.0;
+  within = here_within (PrimitiveFault k);
 }
 
 module _ {A : Type 0} (make : A → Primitive) (range : A → Type 0) {is_never_null : Bool} (laws : IsKind make range is_never_null) where

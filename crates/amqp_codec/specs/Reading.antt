@@ -1,5 +1,5 @@
 -- What it is to read a value of a type: from which state of a decoder, and what state is left.
-use Rattle.std.proofs.Common.{◌≡◌, ℕ, ◌+◌, ◌≤◌, Bool, true, false, List, ◌++◌, length, drop, Option, None, ◌-◌}
+use Rattle.std.proofs.Common.{◌≡◌, ℕ, ◌+◌, ◌%◌, ◌^◌, ◌≤◌, Bool, true, false, List, ◌++◌, length, drop, Option, None, ◌-◌}
 use Rattle.amqp_model.specs.Term.{Term}
 use Rattle.amqp_model.specs.Spelling.{IsSpelling}
 use Rattle.amqp_model.specs.Measures.{nest, weight}
@@ -11,6 +11,7 @@ pub use Rattle.amqp_decoder.specs.State.{greatest}
 use Rattle.amqp_decoder.specs.OtherSource.{elsewhere, IsByDepth}
 use Rattle.amqp_decoder.specs.Misspelled.{IsMisspelling}
 use Rattle.amqp_decoder.specs.Steps.{IsOutside}
+use Rattle.amqp_decoder.specs.Places.{Located}
 
 -- The bytes in front were taken, and none behind them from the source, unless the type looks on.
 pub record Taken (looks_on : Bool) (st : State) (b : State) : Type 0 where
@@ -71,9 +72,9 @@ pub record Reading (T : Type 0) : Type 1 where
   pub same : T → T → Type 0
   -- from the first state the value is read, and the second is left
   pub reads : State → T → State → Type 0
-  -- the error names a fault that stands there; it is neither want of memory nor the source's
-  pub fault : State → Error → Type 0
-  pub not_outside : (e : Error) → IsOutside e → (st : State) → fault st e → ⊥
+  -- the error names a fault that stands there, at its place; it is neither want of memory nor the source's
+  pub fault : State → Located → Type 0
+  pub not_outside : (e : Located) → IsOutside e.error → (st : State) → fault st e → ⊥
   -- reading it takes memory
   pub takes_memory : Bool
   -- the values in it
@@ -90,17 +91,19 @@ pub record Reading (T : Type 0) : Type 1 where
   pub taken : (st : State) (v : T) (b : State) → reads st v b → Taken looks_on st b
   pub stays : (st : State) (v : T) (b : State) → reads st v b → Stays st b
   -- an error that says of bytes that they are no term is named only of such
-  pub misspelled : one_term ≡ true → (limits : Limits) (input : List ℕ) (e : Error) → IsMisspelling e
-      → fault (start_within limits input) e → IsUnspelledWithin limits e input
+  pub misspelled : one_term ≡ true → (limits : Limits) (input : List ℕ) (e : Located) → IsMisspelling e.error
+      → fault (start_within limits input) e → IsUnspelledWithin limits e.error input
+  -- it stands in what is before the decoder, or at the end of that
+  pub within : (st : State) (e : Located) → fault st e → e.left ≤ length st.rest
   -- it doesn't hang on how far was looked
   pub looked : (n : ℕ) (st : State) (v : T) (b : State) → reads st v b → (m : ℕ) × reads (looking n st) v (looking m b)
   -- it doesn't hang on the source
   pub reads_elsewhere : (source : Source) (failed : Bool) (st : State) (v : T) (b : State) → reads st v b
       → reads (elsewhere source failed st) v (elsewhere source failed b)
-  pub fault_elsewhere : (source : Source) (failed : Bool) (st : State) (e : Error) → fault st e → fault (elsewhere source failed st) e
+  pub fault_elsewhere : (source : Source) (failed : Bool) (st : State) (e : Located) → fault st e → fault (elsewhere source failed st) e
   -- a type of terms looks at nothing behind one, so it is the same where one term is read alone
   pub reads_alone : one_term ≡ true → (alone : Bool) (st : State) (v : T) (b : State) → reads st v b → reads (apart alone st) v (apart alone b)
-  pub fault_alone : one_term ≡ true → (alone : Bool) (st : State) (e : Error) → fault st e → fault (apart alone st) e
+  pub fault_alone : one_term ≡ true → (alone : Bool) (st : State) (e : Located) → fault st e → fault (apart alone st) e
 
 -- Within the limits, the input begins with n bytes that are read as the value.
 pub record BeginsWithin {T : Type 0} (limits : Limits) (r : Reading T) (input : List ℕ) (v : T) (n : ℕ) : Type 0 where
@@ -110,10 +113,23 @@ pub record BeginsWithin {T : Type 0} (limits : Limits) (r : Reading T) (input : 
 
 -- Within the limits, the input begins with no value, and has the fault.
 pub record IsUnreadableWithin {T : Type 0} (limits : Limits) (r : Reading T) (input : List ℕ) (e : Error) : Type 0 where
-  pub fault : r.fault (start_within limits input) e
+  -- so many bytes are left from its place on
+  pub left : ℕ
+  pub fault : r.fault (start_within limits input) (record { error = e; left = left })
   pub none : (v : T) (n : ℕ) → BeginsWithin limits r input v n → ⊥
   -- of a type of terms: the error says that no term stands there only where none does
   pub unspelled : r.one_term ≡ true → IsMisspelling e → IsUnspelledWithin limits e input
+
+-- Within the limits, the input has the fault, and so many of its bytes, as a number of 64 bits, are before the place of it.
+abbrev pub HasFaultAt : {T : Type 0} → Limits → Reading T → List ℕ → Error → ℕ → Type 0
+HasFaultAt limits r input e at =
+    (left : ℕ) × r.fault (start_within limits input) (record { error = e; left = left })
+    × ((at + left) % 2 ^ 64 ≡ length input % 2 ^ 64)
+
+-- Within the limits, the input has the fault, and so many of its bytes are before the place of it.
+abbrev pub IsFaultyAt : {T : Type 0} → Limits → Reading T → List ℕ → Error → ℕ → Type 0
+IsFaultyAt limits r input e at =
+    (left : ℕ) × r.fault (start_within limits input) (record { error = e; left = left }) × (at + left ≡ length input)
 
 -- The input begins with n bytes that are read as the value.
 abbrev pub BeginsWith : {T : Type 0} → Reading T → List ℕ → T → ℕ → Type 0
@@ -125,7 +141,9 @@ ReadsNoMore {T} limits r = (input : List ℕ) (v : T) (n : ℕ) → BeginsWithin
 
 -- The input begins with no value, and has the fault.
 pub record IsUnreadable {T : Type 0} (r : Reading T) (input : List ℕ) (e : Error) : Type 0 where
-  pub fault : r.fault (start input) e
+  -- so many bytes are left from its place on
+  pub left : ℕ
+  pub fault : r.fault (start input) (record { error = e; left = left })
   pub none : (v : T) (n : ℕ) → BeginsWith r input v n → ⊥
   -- of a type of terms: the error says that no term stands there only where none does
   pub unspelled : r.one_term ≡ true → IsMisspelling e → IsUnspelled e input

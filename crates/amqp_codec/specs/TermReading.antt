@@ -1,5 +1,5 @@
 -- The reading of a type of terms: one term that means the value.
-use Rattle.std.proofs.Common.{◌≡◌, ℕ, Bool, true, false, refl, sym, ap, ap₂, ◌∙◌, subst, arith}
+use Rattle.std.proofs.Common.{◌≡◌, Bool, true, false, refl, sym, ap, ap₂, ◌∙◌, subst, arith}
 use Rattle.amqp_decoder.specs.State.{Source, State}
 use Rattle.amqp_decoder.specs.OtherSource.{Setting, another, under, elsewhere}
 use Rattle.amqp_decoder.specs.laws.OtherSource.{freed_kept, unlifted, keeps_another, value}
@@ -39,6 +39,7 @@ reading_of u = record {
   looks_on = false;
   one_term = true;
   misspelled = λ _. term_unspelled u;
+  within = u.faults.within;
   taken = value_taken u.means;
   stays = value_stays u.means;
   looked = value_looked u.means;
@@ -46,7 +47,7 @@ reading_of u = record {
       (subst (ReadsValue u.means (under (another source failed) st) v) (another_is source failed b)
       (value (another source failed) u.means h));
   fault_elsewhere = λ source failed st e h. subst (λ x. u.faults.fault x e) (another_is source failed st)
-      (u.faults.fault_elsewhere (another source failed) st e (keeps_another source failed e) h);
+      (u.faults.fault_elsewhere (another source failed) st e (keeps_another source failed e.error) h);
   reads_alone = λ _ alone st v b h. (let k = value_stays u.means st v b h in
       subst (λ x. ReadsValue u.means x v (apart alone b)) (lonely_is alone st st refl)
       (subst (ReadsValue u.means (under (lonely alone st) st) v) (lonely_is alone st b k.source)

@@ -13,6 +13,7 @@ use Rattle.amqp_decoder.proofs.Rooms.{room_inside}
 use Rattle.amqp_decoder.proofs.NotOutside.{open_not_outside}
 use Rattle.amqp_decoder.proofs.Opening.{opens_same}
 use Rattle.amqp_decoder.proofs.ContainerTerms.{whole_with_parts, parts}
+use Rattle.amqp_decoder.specs.Places.{Here}
 use Rattle.amqp_codec.specs.TermType.{TermType}
 use Rattle.amqp_codec.specs.laws.Refusal.{opened_going, opened_sound}
 use Rattle.amqp_codec.specs.Each.{norm_items}
@@ -22,6 +23,7 @@ use Rattle.amqp_codec.specs.ItemsWriting.{items_writing, items_agreement}
 use Rattle.amqp_codec.specs.Wrappers.{via}
 use Rattle.amqp_codec.specs.Written.{Writing}
 use Rattle.amqp_codec.specs.Agreement.{Agreement, via_writing, via_agreement}
+use Rattle.amqp_codec.specs.laws.Within.{here_within, opens_shrinks}
 
 -- How a list is opened.
 abbrev pub list_opening : Opening
@@ -29,7 +31,7 @@ list_opening = record {
   kind = list;
   is_list_or_array = tt;
   opens = Opens list;
-  fault = OpenFault list;
+  fault = Here (OpenFault list);
   fits = λ st. Unit {0};
   one = λ st n m a b. opens_same list st n m a b;
   was_going = λ st n first o. o.begun.going;
@@ -41,10 +43,12 @@ list_opening = record {
       (record { count = h.count; mid = h.first; opened = h.opened; bytes = h.bytes; last = h.last; items = h.row; closed = h.closed });
   held = λ st ts st' fits n. (let c = parts list tt st ts st' n in
       record { count = c.count; first = c.mid; opened = c.opened; bytes = c.bytes; last = c.last; row = c.items; closed = c.closed });
-  not_outside = λ e out. open_not_outside out list;
+  not_outside = λ e out st h. open_not_outside out list st h.0;
   opens_elsewhere = λ c st n first o. opens c o;
-  fault_elsewhere = λ c st e keeps h. open_fault c keeps h;
-  misspelled = λ st e room is h. open_misspelled list tt st e is h;
+  fault_elsewhere = λ c st e keeps h. (open_fault c keeps h.0, h.1);
+  misspelled = λ st e room is h. open_misspelled list tt st e.error is h.0;
+  within = here_within (OpenFault list);
+  shrinks = opens_shrinks list;
   nothing_in = λ st n first mid ts b room. nothing_in_container list tt st n first mid ts b;
   nothing_at_end = λ st n first last ts b e room. nothing_at_end list tt InList st n first last ts b e;
 }

@@ -5,6 +5,8 @@ pub mod OptionType
 pub mod KeptBytes
 pub mod Fields
 pub mod Misspelling
+pub mod Within
+pub mod FieldPlaces
 pub mod OtherSource
 pub mod Meaning
 pub mod ListType

@@ -3,7 +3,7 @@ ghost use Rattle.std.specs.Prelude.{◌≡◌, true, Ok, refl, is_some};
 ghost use Rattle.std.specs.BTreeMap.{get};
 ghost use Rattle.std.specs.List.Sorted.{IsStrictlySortedBy};
 ghost use Rattle.amqp_wire.specs.Sources.{Tells};
-ghost use Rattle.amqp_decoder.specs.Reading.{AnswersRead};
+ghost use Rattle.amqp_decoder.specs.Places.{AnswersAt};
 ghost use Rattle.amqp_decoder.specs.Steps.{Passes};
 ghost use Rattle.amqp_encoder.specs.Passes.{answer_of};
 ghost use Rattle.amqp_codec.specs.Agreement.{via_writing};
@@ -83,7 +83,7 @@ fn read_in_order<K: MapKey + Ord, V: DeserializeTerm, R: ByteSource>(
     decoder: &mut Decoder<R>,
     alloc: Global,
 ) -> Result<BTreeMap<K, V>, Error>
-    ensures read { Tells R.remaining → AnswersRead true (λ st map b. ReadsInOrder K.term V.term K.cmp count st map b)
+    ensures read { Tells R.remaining → AnswersAt true (λ st map b. ReadsInOrder K.term V.term K.cmp count st map b)
         (PairsFault K.term V.term count) decoder.old result decoder.new }
     ensures tries { Passes true decoder.old result decoder.new }
 {

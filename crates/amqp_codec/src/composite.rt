@@ -7,7 +7,7 @@ ghost use Rattle.amqp_codec.specs.Fields.{slots, take_memory};
 ghost use Rattle.amqp_codec.specs.Composite.{table_of, table_with, composite_members};
 ghost use Rattle.amqp_codec.specs.Written.{WritesTerms};
 ghost use Rattle.amqp_wire.specs.Sources.{Tells};
-ghost use Rattle.amqp_decoder.specs.Reading.{AnswersRead};
+ghost use Rattle.amqp_decoder.specs.Places.{AnswersAt};
 ghost use Rattle.amqp_decoder.specs.Primitives.{ReadsValue};
 ghost use Rattle.amqp_decoder.specs.Steps.{Tries};
 ghost use Rattle.amqp_codec.specs.Members.{MemberFault};
@@ -56,7 +56,7 @@ pub fn read_composite<C: Composite, R: ByteSource>(
     decoder: &mut Decoder<R>,
     alloc: Global,
 ) -> Result<C, Error>
-    ensures read { Tells R.remaining → AnswersRead (take_memory C.list.fields) (ReadsValue (λ s. MeansComposite (table_of (table_with C.names C.list))))
+    ensures read { Tells R.remaining → AnswersAt (take_memory C.list.fields) (ReadsValue (λ s. MeansComposite (table_of (table_with C.names C.list))))
         (MemberFault (composite_members (table_with C.names C.list))) decoder.old result decoder.new }
     ensures tries { Tries (take_memory C.list.fields) decoder.old result decoder.new }
 {

@@ -1,6 +1,6 @@
 //! Lists of fields (Part 1, section 1.4): one reader and one writer for all. Only they handle omitted ends, surplus items, defaults and
 //! trailing nulls.
-ghost use Rattle.std.specs.Prelude.{◌≡◌, ◌<◌, ◌≤◌, ◌+◌, false, [], ◌∷◌, length, None, Ok, Some, IfOk, IfErr};
+ghost use Rattle.std.specs.Prelude.{◌≡◌, ◌<◌, ◌≤◌, ◌+◌, false, [], ◌∷◌, suc, length, None, Ok, Some, IfOk, IfErr};
 ghost use Rattle.amqp_model.specs.Items.{is_null};
 ghost use Rattle.amqp_model.specs.Fields.{rules_of, canonical_items};
 ghost use Rattle.amqp_model.specs.Composite.{MeansList, canonical_list};
@@ -13,7 +13,8 @@ ghost use Rattle.amqp_codec.specs.Slots.{MeansSome};
 ghost use Rattle.amqp_codec.specs.Fields.{slots, canon_at, take_memory, takes_at};
 ghost use Rattle.amqp_codec.specs.Written.{WritesTerms};
 ghost use Rattle.amqp_wire.specs.Sources.{Tells};
-ghost use Rattle.amqp_decoder.specs.Reading.{AnswersRead, BeginFault};
+ghost use Rattle.amqp_decoder.specs.Reading.{BeginFault};
+ghost use Rattle.amqp_decoder.specs.Places.{AnswersAt, Here, StandsBefore};
 ghost use Rattle.amqp_decoder.specs.Primitives.{ReadsValue};
 ghost use Rattle.amqp_decoder.specs.Steps.{RefusesBy, Tries};
 ghost use Rattle.amqp_codec.specs.FieldReading.{FieldsFault, Fills, FillsAll, FillsField, IsBlank, ReadsItem, TakesNull, absence, rule_at};
@@ -138,12 +139,11 @@ fn absence(rule: FieldRule) -> Option<Error>
 fn check_absent<R: ByteSource>(rule: FieldRule, decoder: &mut Decoder<R>) -> Result<(), Error>
     ensures ok { IfOk result (λ _. (absence rule ≡ None) × (decoder.new ≡ decoder.old)) }
     ensures err { IfErr result (λ e. (error : _) × (absence rule ≡ Some error) × RefusesBy error decoder.old e decoder.new) }
+    ensures place { IfErr result (λ _. decoder.old.error ≡ None
+        → StandsBefore (suc (length decoder.old.rest)) decoder.old decoder.new) }
 {
     match absence(rule) {
-        Some(error) => {
-            let null = decoder.place().wrapping_sub(1);
-            Err(decoder.refuse_at(null, error))
-        }
+        Some(error) => Err(decoder.refuse_before(error)),
         None => Ok(()),
     }
 }
@@ -181,7 +181,7 @@ pub fn read_list<L: FieldList, R: ByteSource>(
     decoder: &mut Decoder<R>,
     alloc: Global,
 ) -> Result<L, Error>
-    ensures read { Tells R.remaining → AnswersRead (take_memory L.list.fields) (ReadsValue (λ s. MeansList (slots L.list.fields)))
+    ensures read { Tells R.remaining → AnswersAt (take_memory L.list.fields) (ReadsValue (λ s. MeansList (slots L.list.fields)))
         (FieldsFault L.list.fields) decoder.old result decoder.new }
     ensures tries { Tries (take_memory L.list.fields) decoder.old result decoder.new }
 {
@@ -195,7 +195,7 @@ pub fn read_list<L: FieldList, R: ByteSource>(
 // Takes a null if one comes next, and returns whether it did. Otherwise it takes nothing.
 #[inline(always)]
 fn takes_null<R: ByteSource>(decoder: &mut Decoder<R>) -> Result<bool, Error>
-    ensures read { Tells R.remaining → AnswersRead false TakesNull BeginFault decoder.old result decoder.new }
+    ensures read { Tells R.remaining → AnswersAt false TakesNull (Here BeginFault) decoder.old result decoder.new }
     ensures tries { Tries false decoder.old result decoder.new }
 {
     match decoder.peek_value() {
@@ -211,7 +211,7 @@ fn takes_null<R: ByteSource>(decoder: &mut Decoder<R>) -> Result<bool, Error>
 // The same, however the source gives it.
 #[inline(never)]
 fn takes_any_null<R: ByteSource>(decoder: &mut Decoder<R>) -> Result<bool, Error>
-    ensures read { Tells R.remaining → AnswersRead false TakesNull BeginFault decoder.old result decoder.new }
+    ensures read { Tells R.remaining → AnswersAt false TakesNull (Here BeginFault) decoder.old result decoder.new }
     ensures tries { Tries false decoder.old result decoder.new }
 {
     if decoder.peek_code()? != format_code::NULL {

@@ -3,7 +3,7 @@ ghost use Rattle.std.specs.Prelude.{All, refl, true};
 ghost use Rattle.std.specs.List.{flat_map};
 ghost use Rattle.amqp_model.specs.Term.{list};
 ghost use Rattle.amqp_wire.specs.Sources.{Tells};
-ghost use Rattle.amqp_decoder.specs.Reading.{AnswersRead};
+ghost use Rattle.amqp_decoder.specs.Places.{AnswersAt};
 ghost use Rattle.amqp_decoder.specs.Steps.{Passes};
 ghost use Rattle.amqp_codec.specs.Written.{WritesTerms};
 ghost use Rattle.amqp_codec.specs.Agreement.{via_writing, via_agreement};
@@ -47,7 +47,7 @@ pub fn read_each<T: DeserializeTerm, R: ByteSource>(
     decoder: &mut Decoder<R>,
     alloc: Global,
 ) -> Result<Vec<T>, Error>
-    ensures read { Tells R.remaining → AnswersRead true (λ st v b. ReadsRow count T.term.means st v.items b)
+    ensures read { Tells R.remaining → AnswersAt true (λ st v b. ReadsRow count T.term.means st v.items b)
         (RowFault count T.term.means T.term.faults.fault) decoder.old result decoder.new }
     ensures tries { Passes true decoder.old result decoder.new }
 {

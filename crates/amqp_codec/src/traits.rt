@@ -6,7 +6,7 @@ ghost use Rattle.amqp_codec.specs.TermType.{TermType};
 ghost use Rattle.amqp_codec.specs.Written.{WritesTerms, Writing, IsOneTerm, canon_of};
 ghost use Rattle.amqp_codec.specs.Agreement.{Agreement};
 ghost use Rattle.amqp_wire.specs.Sources.{Tells};
-ghost use Rattle.amqp_decoder.specs.Reading.{AnswersRead};
+ghost use Rattle.amqp_decoder.specs.Places.{AnswersAt};
 ghost use Rattle.amqp_decoder.specs.Primitives.{ReadsValue};
 ghost use Rattle.amqp_decoder.specs.Steps.{Tries};
 ghost use Rattle.amqp_codec.specs.Reading.{Reading};
@@ -45,7 +45,7 @@ pub trait Deserialize: Sized + Drop {
     /// Reads the value that comes next. An error is `Memory`, if reading the type allocates, or the source's; or it reports a fault of the
     /// value.
     fn deserialize<R: ByteSource>(decoder: &mut Decoder<R>, alloc: Global) -> Result<Self, Error>
-        ensures read { Tells R.remaining → AnswersRead reading.takes_memory reading.reads reading.fault decoder.old result decoder.new }
+        ensures read { Tells R.remaining → AnswersAt reading.takes_memory reading.reads reading.fault decoder.old result decoder.new }
         ensures tries { Tries reading.takes_memory decoder.old result decoder.new };
 }
 
@@ -92,7 +92,7 @@ pub trait DeserializeTerm: SerializeTerm + Sized + Drop {
     /// value.
     fn read_value<R: ByteSource>(decoder: &mut Decoder<R>, alloc: Global) -> Result<Self, Error>
         ensures read { Tells R.remaining
-            → AnswersRead term.takes_memory (ReadsValue term.means) term.faults.fault decoder.old result decoder.new }
+            → AnswersAt term.takes_memory (ReadsValue term.means) term.faults.fault decoder.old result decoder.new }
         ensures tries { Tries term.takes_memory decoder.old result decoder.new };
 
     // It is written as its record says.

@@ -13,6 +13,8 @@ mod errors;
 #[cfg(test)]
 mod growth;
 #[cfg(test)]
+mod made;
+#[cfg(test)]
 mod makers;
 #[cfg(test)]
 mod performatives;

@@ -1,5 +1,5 @@
 -- What stands in a field of several values is read: its first code is looked at, and then an array of them or one of them is read.
-use Rattle.std.proofs.Common.{◌≡◌, ◌⊎◌, inl, inr, ℕ, Bool, true, false, List, [], ◌∷◌, Option, Some, None, refl, sym, ap, ◌∙◌, subst}
+use Rattle.std.proofs.Common.{◌≡◌, ◌⊎◌, inl, inr, ℕ, Bool, true, false, List, [], ◌∷◌, length, Option, Some, None, refl, sym, ap, ◌∙◌, subst}
 use Rattle.std.proofs.lemmas.Bool.{ne_eqb}
 use Rattle.amqp_model.specs.Term.{array, Term, Terms, leaf, container, described, kept, barred, list, map as map_kind}
 use Rattle.amqp_model.specs.Term.{none, more}
@@ -8,15 +8,17 @@ use Rattle.amqp_model.specs.Standing.{Standing}
 use Rattle.amqp_model.specs.Ranges.{IsNoArray}
 use Rattle.amqp_wire.specs.declared.error.Error.{Error}
 use Rattle.amqp_wire.specs.declared.error.Error.TheVariants.{Memory, EmptyMultiple}
-use Rattle.amqp_decoder.specs.State.{State}
+use Rattle.amqp_decoder.specs.State.{IsPlaceOf, State}
 use Rattle.amqp_decoder.specs.Steps.{RefusesBy}
-use Rattle.amqp_decoder.specs.Reading.{RefusesRead, PeeksCode}
+use Rattle.amqp_decoder.specs.Reading.{PeeksCode}
 use Rattle.amqp_decoder.specs.Primitives.{Stands, ReadsValue}
 use Rattle.amqp_decoder.proofs.Steps.{answered_later, first_kept}
+use Rattle.amqp_decoder.proofs.Places.{before_at}
 use Rattle.amqp_decoder.proofs.Opening.{not_array}
 use Rattle.amqp_decoder.proofs.Misspelled.{term_under, container_there}
 use Rattle.amqp_decoder.proofs.Peeks.{value-peeked}
 use Rattle.amqp_decoder.proofs.OneReading.{value_same}
+use Rattle.amqp_decoder.specs.Places.{Located, RefusesAt}
 use Rattle.amqp_codec.specs.TermType.{TermType}
 use Rattle.amqp_codec.specs.laws.Refusal.{NoneStands, refused_first, refused_later, value_going}
 use Rattle.amqp_codec.specs.laws.Peek.{peeked_failed, peeked_going}
@@ -61,7 +63,7 @@ module _ {T : Type 0} (u : TermType T) where
   abbrev Several : State → Option (Array T) → State → Type 0
   Several = ReadsValue (MeansMultiple u)
 
-  abbrev SeveralFault : State → Error → Type 0
+  abbrev SeveralFault : State → Located → Type 0
   SeveralFault = (multiple_faults u).fault
 
   abbrev InArray : Standing → Term → List T → Type 0
@@ -128,11 +130,11 @@ module _ {T : Type 0} (u : TermType T) where
         ]
 
     pub array_refused : (c ≡ 0xe0) ⊎ (c ≡ 0xf0) → (empty : Array T) → empty.0.items ≡ [] → (e : Error) (new : State)
-        → RefusesRead true AnArray (array_of u).faults.fault mid e new → RefusesRead true Several SeveralFault st e new
+        → RefusesAt true AnArray (array_of u).faults.fault mid e new → RefusesAt true Several SeveralFault st e new
     array_refused is empty same e new h =
         let going = peeked_going st c mid p in
         refused_later AnArray (array_of u).faults.fault Several SeveralFault st mid e new (λ t. t) (peeked_failed st c mid p)
-        going.0 going.1 (in_first p (array_test c is)) (no_array_of is empty same) h
+        going.0 going.1 (λ _. in_first p (array_test c is)) (no_array_of is empty same) h
 
     -- one value is read
     module _ (f : c ≡ 0xe0 → ⊥) (g : c ≡ 0xf0 → ⊥) where
@@ -164,16 +166,16 @@ module _ {T : Type 0} (u : TermType T) where
                 (record { bytes = h.bytes; term = h.term; stands = h.stands; moved = h.moved; meant = x.2 })))
           ]
 
-      pub item_refused : {takes : Bool} (e : Error) (new : State) → RefusesRead takes (ReadsValue u.means) u.faults.fault mid e new
-          → RefusesRead true Several SeveralFault st e new
+      pub item_refused : {takes : Bool} (e : Error) (new : State) → RefusesAt takes (ReadsValue u.means) u.faults.fault mid e new
+          → RefusesAt true Several SeveralFault st e new
       item_refused e new h =
           let going = peeked_going st c mid p in
           refused_later (ReadsValue u.means) u.faults.fault Several SeveralFault st mid e new (λ _. refl) (peeked_failed st c mid p)
-          going.0 going.1 (in_second p (other_test c f g)) no_item h
+          going.0 going.1 (λ _. in_second p (other_test c f g)) no_item h
 
     -- memory for the array of one was wanted
     pub no_room : (x : T) (b : State) (e : Error) (new : State) → RefusesBy Memory b e new → ReadsValue u.means mid x b
-        → RefusesRead true Several SeveralFault st e new
+        → RefusesAt true Several SeveralFault st e new
     no_room x b e new refused h = let is = (refused (value_going h)).0 in record {
       kept = answered_later (ap (λ (z : State). z.failed) h.moved ∙ peeked_failed st c mid p) (first_kept {st = b} (value_going h) refused);
       again = λ d y. absurd (let z = (peeked_going st c mid p).0 in cc);
@@ -211,22 +213,23 @@ module _ {T : Type 0} (u : TermType T) where
   as_several : (st : State) (v : Array T) (b : State) → AtLeastOne st v b → Several st (Some v) b
   as_several st v b h = record { bytes = h.bytes; term = h.term; stands = h.stands; moved = h.moved; meant = h.meant }
 
-  pub mandatory_refused : (st : State) (e : Error) (new : State) → RefusesRead true Several SeveralFault st e new
-      → RefusesRead true AtLeastOne (MandatoryFault u) st e new
+  pub mandatory_refused : (st : State) (e : Error) (new : State) → RefusesAt true Several SeveralFault st e new
+      → RefusesAt true AtLeastOne (MandatoryFault u) st e new
   mandatory_refused st e new h =
-      refused_first Several SeveralFault AtLeastOne (MandatoryFault u) st e new (λ t. t) not_read
+      refused_first Several SeveralFault AtLeastOne (MandatoryFault u) st e new (λ t. t) (λ _. not_read)
       (λ none v b k. none (Some v) b (as_several st v b k)) h
 
   -- an array without items stands there
   pub none_refused : (st mid : State) (e : Error) (new : State) (w : Option (Array T)) → w ≡ None
-      → RefusesBy EmptyMultiple mid e new → Several st w mid → RefusesRead true AtLeastOne (MandatoryFault u) st e new
-  none_refused st mid e new w empty refused k =
+      → RefusesBy EmptyMultiple mid e new → (place : ℕ) → (mid.error ≡ None → new.source.fault ≡ place) → IsPlaceOf place st
+      → Several st w mid → RefusesAt true AtLeastOne (MandatoryFault u) st e new
+  none_refused st mid e new w empty refused place there at k =
       let h : Several st None mid = subst (λ x. Several st x mid) empty k in
       let is = (refused (value_going h)).0 in
       record {
         kept = answered_later (ap (λ (z : State). z.failed) h.moved) (first_kept {st = mid} (value_going h) refused);
         again = λ d y. absurd (let z = h.stands.going in cc);
-        named = λ _. inr (no_items h is);
+        named = λ _. inr (length st.rest, no_items h is refl, before_at st (length st.rest) _ new (there (value_going h)) at);
         none = inr (λ v b k. (let x = value_same (MeansMultiple u) st mid b None (Some v) h (as_several st v b k) in
             x.3.1 (none_or_some x.0 x.1 v.0.items x.2 x.3.0)));
       }

@@ -4,14 +4,15 @@ use Rattle.amqp_model.specs.Term.{array}
 use Rattle.amqp_model.specs.FieldType.{Norm, normal, unchanged, by_norm}
 use Rattle.amqp_decoder.specs.declared.frame.Place.TheVariants.{InArray}
 use Rattle.amqp_decoder.specs.State.{State}
-use Rattle.amqp_decoder.specs.Arrays.{no_items, shared_by, Starts, OpensArray, ArrayFault}
+use Rattle.amqp_decoder.specs.Arrays.{no_items, shared_by, Starts, OpensArray, array_left}
 use Rattle.amqp_decoder.specs.Rooms.{HasRoom}
-use Rattle.amqp_decoder.specs.laws.OtherSource.{opens_array, array_fault}
+use Rattle.amqp_decoder.specs.laws.OtherSource.{opens_array, array_placed}
 use Rattle.amqp_decoder.proofs.ArrayTerms.{whole_array_with_parts, array_parts, opens_array_same, opened_items}
 use Rattle.amqp_decoder.proofs.Misspelled.{array_misspelled}
 use Rattle.amqp_decoder.proofs.NothingInside.{nothing_in_array, nothing_at_array_end}
 use Rattle.amqp_decoder.proofs.Rooms.{room_for_array, room_in_array}
 use Rattle.amqp_decoder.proofs.NotOutside.{array_not_outside}
+use Rattle.amqp_decoder.specs.Places.{At}
 use Rattle.amqp_codec.specs.TermType.{TermType}
 use Rattle.amqp_codec.specs.Each.{norm_items}
 use Rattle.amqp_codec.specs.ItemsReading.{Opening}
@@ -22,6 +23,7 @@ use Rattle.amqp_codec.specs.Wrappers.{via}
 use Rattle.amqp_codec.specs.Written.{Writing}
 use Rattle.amqp_codec.specs.Agreement.{Agreement, via_writing, via_agreement}
 use Rattle.amqp_containers.specs.declared.array.Array.{Array}
+use Rattle.amqp_codec.specs.laws.Within.{array_within, array_shrinks}
 
 -- what taking the constructor of an array leaves as it was
 starts_still : (n content : ℕ) (st first : State) → Starts n content st first → (first.error ≡ st.error) × (first.failed ≡ st.failed)
@@ -47,7 +49,7 @@ array_opening = record {
   kind = array;
   is_list_or_array = tt;
   opens = OpensArray;
-  fault = ArrayFault;
+  fault = At array_left;
   fits = HasRoom;
   one = λ st n m a b. opens_array_same st n m a b;
   was_going = λ st n first o. o.begun.going;
@@ -59,10 +61,12 @@ array_opening = record {
       (record { count = h.count; mid = h.first; opened = h.opened; bytes = h.bytes; last = h.last; items = h.row; closed = h.closed });
   held = λ st ts st' fits n. (let c = array_parts st ts st' (room_for_array st ts n.bytes fits n.stands) n in
       record { count = c.count; first = c.mid; opened = c.opened; bytes = c.bytes; last = c.last; row = c.items; closed = c.closed });
-  not_outside = λ e out. array_not_outside out;
+  not_outside = λ e out st f. array_not_outside out st f.0;
   opens_elsewhere = λ c st n first o. opens_array c o;
-  fault_elsewhere = λ c st e keeps h. array_fault c keeps h;
-  misspelled = array_misspelled;
+  fault_elsewhere = λ c st e keeps h. array_placed c keeps h;
+  misspelled = λ st e room i f. array_misspelled st e.error room i f.0;
+  within = array_within;
+  shrinks = array_shrinks;
   nothing_in = nothing_in_array;
   nothing_at_end = nothing_at_array_end InArray;
 }

@@ -1,10 +1,9 @@
 -- What stands in a field of several values (Part 1, section 1.4): the items of an array, or one value by itself.
-use Rattle.std.proofs.Common.{◌≡◌, ◌⊎◌, ℕ, Bool, ◌||◌, eqb, List, [], ◌∷◌, map, Option, Some, None, subst}
+use Rattle.std.proofs.Common.{◌≡◌, ◌⊎◌, ℕ, Bool, ◌||◌, eqb, List, [], ◌∷◌, length, map, Option, Some, None, subst, ◌≤◌, arith}
 use Rattle.amqp_model.specs.Term.{null, empty_multiple, array, Term, leaf, barred}
 use Rattle.amqp_model.specs.FieldRules.{option_canon, array_or}
 use Rattle.amqp_model.specs.Standing.{Standing}
 use Rattle.amqp_model.specs.Ranges.{IsNoArray}
-use Rattle.amqp_wire.specs.declared.error.Error.{Error}
 use Rattle.amqp_wire.specs.declared.error.Error.TheVariants.{EmptyMultiple}
 use Rattle.amqp_decoder.specs.State.{State}
 use Rattle.amqp_decoder.specs.OtherSource.{Setting, under, KeepsError}
@@ -13,6 +12,7 @@ use Rattle.amqp_decoder.specs.Rooms.{HasRoom}
 use Rattle.amqp_decoder.specs.Misspelled.{IsMisspelling, NothingStands}
 use Rattle.amqp_decoder.specs.Primitives.{ReadsValue}
 use Rattle.amqp_decoder.specs.Steps.{IsOutside}
+use Rattle.amqp_decoder.specs.Places.{Located}
 use Rattle.amqp_codec.specs.Faults.{Faults}
 use Rattle.amqp_codec.specs.TermType.{TermType, IsLeaf}
 use Rattle.amqp_codec.specs.EitherType.{either_faults}
@@ -63,23 +63,28 @@ abbrev pub multiple_faults : {T : Type 0} → TermType T → Faults
 multiple_faults u = either_faults is_array_code (array_of u).faults u.faults
 
 -- Where at least one is wanted: as well, an array without items stands there.
-pub data MandatoryFault {T : Type 0} (u : TermType T) (st : State) (e : Error) : Type 0 where
+pub data MandatoryFault {T : Type 0} (u : TermType T) (st : State) (e : Located) : Type 0 where
   not_read : (multiple_faults u).fault st e → MandatoryFault u st e
-  no_items : {b : State} → ReadsValue (MeansMultiple u) st None b → e ≡ EmptyMultiple → MandatoryFault u st e
+  no_items : {b : State} → ReadsValue (MeansMultiple u) st None b → e.error ≡ EmptyMultiple → e.left ≡ length st.rest
+      → MandatoryFault u st e
 
 module _ {T : Type 0} (u : TermType T) where
-  pub mandatory_not_outside : {e : Error} → IsOutside e → (st : State) → MandatoryFault u st e → ⊥
+  pub mandatory_not_outside : {e : Located} → IsOutside e.error → (st : State) → MandatoryFault u st e → ⊥
   mandatory_not_outside {e} out st (not_read h) = (multiple_faults u).not_outside e out st h
-  mandatory_not_outside out st (no_items h is) = subst IsOutside is out
+  mandatory_not_outside out st (no_items h is place) = subst IsOutside is out
 
-  pub mandatory_elsewhere : (c : Setting) (st : State) (e : Error) → KeepsError c e → MandatoryFault u st e
+  pub mandatory_elsewhere : (c : Setting) (st : State) (e : Located) → KeepsError c e.error → MandatoryFault u st e
       → MandatoryFault u (under c st) e
   mandatory_elsewhere c st e keeps (not_read h) = not_read ((multiple_faults u).fault_elsewhere c st e keeps h)
-  mandatory_elsewhere c st e keeps (no_items h is) = no_items (value c (MeansMultiple u) h) is
+  mandatory_elsewhere c st e keeps (no_items h is place) = no_items (value c (MeansMultiple u) h) is place
 
-  pub mandatory_misspelled : (st : State) (e : Error) → HasRoom st → IsMisspelling e → MandatoryFault u st e → NothingStands st
+  pub mandatory_misspelled : (st : State) (e : Located) → HasRoom st → IsMisspelling e.error → MandatoryFault u st e → NothingStands st
   mandatory_misspelled st e room i (not_read h) = (multiple_faults u).misspelled st e room i h
-  mandatory_misspelled st e room i (no_items h is) = absurd (subst IsMisspelling is i)
+  mandatory_misspelled st e room i (no_items h is place) = absurd (subst IsMisspelling is i)
+
+  pub mandatory_within : (st : State) (e : Located) → MandatoryFault u st e → e.left ≤ length st.rest
+  mandatory_within st e (not_read h) = (multiple_faults u).within st e h
+  mandatory_within st e (no_items h is place) = omega (arith, place)
 
   abbrev pub mandatory_faults : Faults
   mandatory_faults = record {
@@ -87,4 +92,5 @@ module _ {T : Type 0} (u : TermType T) where
     not_outside = λ e out. mandatory_not_outside out;
     fault_elsewhere = mandatory_elsewhere;
     misspelled = mandatory_misspelled;
+    within = mandatory_within;
   }

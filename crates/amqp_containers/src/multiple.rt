@@ -3,7 +3,7 @@
 ghost use Rattle.std.specs.Prelude.{◌≡◌, [], ◌∷◌, true};
 ghost use Rattle.amqp_model.specs.Items.{is_null};
 ghost use Rattle.amqp_wire.specs.Sources.{Tells};
-ghost use Rattle.amqp_decoder.specs.Reading.{AnswersRead};
+ghost use Rattle.amqp_decoder.specs.Places.{AnswersAt};
 ghost use Rattle.amqp_decoder.specs.Primitives.{ReadsValue};
 ghost use Rattle.amqp_decoder.specs.Steps.{Tries};
 ghost use Rattle.amqp_codec.specs.FieldReading.{Fills};
@@ -23,7 +23,7 @@ fn read_several<T: DeserializeTerm, R: ByteSource>(
     decoder: &mut Decoder<R>,
     alloc: Global,
 ) -> Result<Option<Array<T>>, Error>
-    ensures read { Tells R.remaining → AnswersRead true (ReadsValue (MeansMultiple T.term)) (multiple_faults T.term).fault
+    ensures read { Tells R.remaining → AnswersAt true (ReadsValue (MeansMultiple T.term)) (multiple_faults T.term).fault
         decoder.old result decoder.new }
     ensures tries { Tries true decoder.old result decoder.new }
 {

@@ -1,6 +1,6 @@
 -- Constructors, and the arrays whose items share them.
 use Rattle.std.proofs.Common.{◌≡◌, ◌≤◌, ℕ, ◌+◌, ◌⊎◌, inl, inr, Bool, true, false, not, eqb, leb, ◌↔◌, IsTrue, None, List, [], ◌∷◌, ◌++◌}
-use Rattle.std.proofs.Common.{length, drop, map, get_or, refl, sym, ap, ◌∙◌, subst, arith, append_assoc, length-append}
+use Rattle.std.proofs.Common.{suc, length, drop, map, get_or, refl, sym, ap, ◌∙◌, subst, arith, append_assoc, length-append}
 use Rattle.std.proofs.lemmas.Bool.{eqb-true, leb-true, le-leb, or_cases, or_right}
 use Rattle.std.proofs.lemmas.List.{drop_at, map-append}
 use Rattle.amqp_wire.specs.declared.descriptor.Descriptor.{Descriptor as DescriptorValue}
@@ -15,14 +15,16 @@ use Rattle.amqp_lengths.specs.Pieces.{IsPrimitive}
 use Rattle.amqp_lengths.specs.Lengths.{Marks}
 use Rattle.amqp_lengths.proofs.Descriptors.{marks_more, marks_done}
 use Rattle.amqp_lengths.proofs.Codes.{zero_at, is_container, Divided, container_at}
-use Rattle.amqp_decoder.specs.State.{State, DescriptorValues, descriptor_of, Has, after_data}
-use Rattle.amqp_decoder.specs.Steps.{Answers, Takes, Lacks, Stops}
+use Rattle.amqp_decoder.specs.State.{refused_at, IsPlaceOf, State, DescriptorValues, descriptor_of, Has, after_data}
+use Rattle.amqp_decoder.specs.Steps.{Answers, Takes, Lacks}
+use Rattle.amqp_decoder.specs.Places.{Located, Here, At, StandsBefore, StopsAt}
 use Rattle.amqp_decoder.specs.Described.{IsDescriptor, TakesDescriptor, DescriptorFault, MissesDescriptor}
-use Rattle.amqp_decoder.specs.Arrays.{TakesMarks, TakesConstructor, ConstructorFault, no_code, no_mark, too_many, no_known_code, IsFlat}
+use Rattle.amqp_decoder.specs.Arrays.{TakesMarks, TakesConstructor, ConstructorFault, no_code, no_mark, too_many, no_known_code, NoMarked, constructor_left, IsFlat}
 use Rattle.amqp_decoder.proofs.ReadPrimitives.{has_front, has_rest, took_none}
 use Rattle.amqp_decoder.proofs.Opening.{took_both, after_data-after_data}
 use Rattle.amqp_decoder.proofs.Descriptors.{fault_not_names}
-use Rattle.amqp_decoder.proofs.Steps.{answered_took, not_lacking}
+use Rattle.amqp_decoder.proofs.Steps.{answered, answered_took, not_lacking}
+use Rattle.amqp_decoder.proofs.Places.{before_later, stops_as, stops_later}
 use Rattle.amqp_lookahead.proofs.Looks.{front_is, rest_is}
 
 -- a known code whose data has no bytes
@@ -242,29 +244,36 @@ constructor_took st ds c m new few some t (known, same) =
     (record { own = t.own ++ (c ∷ []); few = few; spelled = marks_done ds c t.own t.marks (ends_known c some known); took = t.took })
 
 -- why none is taken
-pub stopped_first : (st : State) (e : Error) (new : State) → Stops true (Lacks 1 st) st e new → Stops true (ConstructorFault st) st e new
-stopped_first st e new s =
-    record { kept = s.kept; why = elim s.why [ inl x ↦ inl x | inr x ↦ inr (no_code [] [] st refl (took_none st) x) ] }
+pub stopped_first : (st : State) (e : Error) (new : State) → StopsAt true (Here (Lacks 1) st) st e new
+    → StopsAt true (At constructor_left st) st e new
+stopped_first st e new s = stops_as {st = st} (λ f h. (no_code [] [] st refl (took_none st) h.0, h.1)) s
+
+took_failed : (st m : State) (s : List ℕ) → Takes st s m → m.failed ≡ st.failed
+took_failed st m s t = ap (λ (z : State). z.failed) t.moved
 
 pub stopped_code : (st : State) (ds : List Descriptor) (m : State) (e : Error) (new : State) → TookNamed st ds m
-    → Stops true (Lacks 1 m) m e new → Stops true (ConstructorFault st) st e new
+    → StopsAt true (Here (Lacks 1) m) m e new → StopsAt true (At constructor_left st) st e new
 stopped_code st ds m e new t s =
-    record { kept = answered_took t.took s.kept; why = elim s.why [ inl x ↦ inl x | inr x ↦ inr (no_code ds t.own m t.marks t.took x) ] }
+    stops_later {st = st} {m = m} (took_failed st m t.own t.took) (λ f h. (no_code ds t.own m t.marks t.took h.0, h.1)) s
+
+marked_fault : (st : State) (ds : List Descriptor) (n : ℕ) (m : State) (f : Located) → n ≡ length ds → TakesMarks st ds 0 m → NoMarked n m f
+    → At constructor_left st f
+marked_fault st ds n m f is t (inl z) = (too_many ds m t (omega (arith, is, z.1)) z.0, z.2)
+marked_fault st ds n m f is t (inr z) = (no_mark ds m t z.0, z.1)
 
 pub stopped_mark : (st : State) (ds : List Descriptor) (n : ℕ) (m : State) (e : Error) (new : State) → n ≡ length ds → TakesMarks st ds 0 m
-    → Stops true (λ e. ((e ≡ Depth) × (128 ≤ n)) ⊎ DescriptorFault m e) m e new → Stops true (ConstructorFault st) st e new
-stopped_mark st ds n m e new is t s = record {
-  kept = answered_took t.took s.kept;
-  why = elim s.why [
-    | inl x ↦ inl x
-    | inr y ↦ elim y [ inl z ↦ inr (too_many ds m t (omega (arith, is, z.1)) z.0) | inr z ↦ inr (no_mark ds m t z) ]
-  ];
-}
+    → StopsAt true (NoMarked n m) m e new → StopsAt true (At constructor_left st) st e new
+stopped_mark st ds n m e new is t s =
+    stops_later {st = st} {m = m} (took_failed st m (t.own ++ (0 ∷ [])) t.took) (λ f h. marked_fault st ds n m f is t h) s
 
 pub stopped_unknown : (st : State) (ds : List Descriptor) (c : ℕ) (m : State) (e : Error) (new : State) → TakesMarks st ds c m
-    → (c ≡ 0 → ⊥) × (IsKnown (format c) → ⊥) × (e ≡ refusal_of c) × Answers m e new → Stops true (ConstructorFault st) st e new
-stopped_unknown st ds c m e new t (some, never, is, kept) =
-    record { kept = answered_took t.took kept; why = inr (no_known_code ds c m t some never is) }
+    → (c ≡ 0 → ⊥) × (IsKnown (format c) → ⊥) × (e ≡ refusal_of c) × Answers m e new → StandsBefore (suc (length m.rest)) m new
+    → StopsAt true (At constructor_left st) st e new
+stopped_unknown st ds c m e new t (some, never, is, kept) p = record {
+  kept = answered_took t.took kept;
+  why = inr (suc (length m.rest), (no_known_code ds c m t some never is, refl),
+      before_later st m (suc (length m.rest)) new (took_failed st m (t.own ++ (c ∷ [])) t.took) p);
+}
 
 pub more_named : (st : State) (l l' : DescriptorValues) (m : State) (new : State) → st.top.shared ≡ None
     → TakesMarks st (map descriptor_of l) 0 m → (d : DescriptorValue) × TakesDescriptor m (descriptor_of d) new × (l' ≡ l ++ (d ∷ []))
@@ -274,5 +283,12 @@ more_named st l l' m new none t (d, u, is) =
     (named_behind st (map descriptor_of l) m (descriptor_of d) new none t u)
 
 pub stopped_descriptor : (st : State) (n : ℕ) (e : Error) (new : State) → MissesDescriptor true st e new
-    → Stops true (λ e. ((e ≡ Depth) × (128 ≤ n)) ⊎ DescriptorFault st e) st e new
-stopped_descriptor st n e new f = record { kept = f.kept; why = elim f.why [ inl x ↦ inl x | inr (none, x) ↦ inr (inr x) ] }
+    → IsPlaceOf new.source.fault st → StopsAt true (NoMarked n st) st e new
+stopped_descriptor st n e new f p =
+    record { kept = f.kept; why = elim f.why [ inl x ↦ inl x | inr (none, x) ↦ inr (length st.rest, inr (x, refl), p) ] }
+
+-- a descriptor more than may stand
+pub stopped_many : (st : State) (n : ℕ) (e : Error) (new : State) → 128 ≤ n → e ≡ Depth → new ≡ refused_at Depth new.source.fault st
+    → StandsBefore (suc (length st.rest)) st new → StopsAt true (NoMarked n st) st e new
+stopped_many st n e new many is kept p =
+    record { kept = answered st new e Depth kept is; why = inr (suc (length st.rest), inl (is, many, refl), p) }

@@ -11,8 +11,9 @@ use Rattle.amqp_wire.specs.declared.error.Error.{Error}
 use Rattle.amqp_wire.specs.declared.error.Error.TheVariants.{NonAscii, WrongDescriptor}
 use Rattle.amqp_wire.specs.Codes.{refusal_of}
 use Rattle.amqp_wire.specs.declared.descriptor.Descriptor.{Descriptor as DescriptorValue}
-use Rattle.amqp_decoder.specs.State.{refused_at, State, depth_error, Has, after_bytes, after_data, descriptor_of}
+use Rattle.amqp_decoder.specs.State.{refused_at, IsPlaceOf, State, depth_error, Has, after_bytes, after_data, descriptor_of}
 use Rattle.amqp_decoder.specs.Steps.{Answers, IsExcused, Pulls, Takes, FallsShort}
+use Rattle.amqp_decoder.specs.Places.{StandsHere, At, IsPlaced, RefusesAt}
 use Rattle.amqp_decoder.specs.Reading.{RefusesRead, IsFirst, ReadsCode, BeginFault}
 use Rattle.amqp_lookahead.specs.Kinds.{kind_at}
 use Rattle.amqp_decoder.specs.Primitives.{LacksData, IsWhole, AnswersFault, ReadsSize, SizedFault, ReadsSized, ReadsData, LacksDataOf}
@@ -20,12 +21,14 @@ use Rattle.amqp_lookahead.specs.Members.{Member, place_of}
 use Rattle.amqp_decoder.specs.Described.{IsMark, IsUnmarked, IsDescriptor, IsDescribable, TakesDescriptor, in_described, OpensOneOf}
 use Rattle.amqp_decoder.specs.Described.{DescribedFault, not_begun, other_code, too_deep, other_kind, symbol_code, IsDescriptorKind}
 use Rattle.amqp_decoder.specs.Described.{DescriptorFault, no_code, no_kind, no_data, non_ascii, MissesDescriptor, TakesPlace, MissesName}
-use Rattle.amqp_decoder.specs.Described.{OneOfFault, OpenFault, not_open, nameless, not_described, no_descriptor, no_member, OpensDescribed}
+use Rattle.amqp_decoder.specs.Described.{OneOfFault, OpenFault, not_open, nameless, not_described, no_descriptor, no_member, OpensDescribed, open_left}
+use Rattle.amqp_decoder.specs.Described.{one_of_left}
 use Rattle.amqp_lookahead.proofs.KindsOfCodes.{kind_data, kind_is, not_two}
 use Rattle.amqp_decoder.proofs.ReadPrimitives.{has_add, has_rest, lower-lower, minus-minus, after_code, begun_same, fault_not_begun}
 use Rattle.amqp_decoder.proofs.ReadPrimitives.{data_not_lacking, data_whole, whole_same, took_none}
 use Rattle.amqp_decoder.proofs.SizedTexts.{sized_cut, no_text_value}
 use Rattle.amqp_decoder.proofs.Steps.{answered, answered_begun, answered_later, answered_took, excused_by_source, not_lacking, took_pulled}
+use Rattle.amqp_decoder.proofs.Places.{before_at, before_later}
 
 after_data-after_data : (m n : ℕ) (st : State) → after_data n (after_data m st) ≡ after_data (m + n) st
 after_data-after_data m n st = rw (minus-minus st.ahead m n, drop-drop n m st.rest, lower-lower st.top.left m n) refl
@@ -276,6 +279,9 @@ begun_fails fault st c m e new g kept why = record {
   named = λ h. why;
 }
 
+begun_failed : {st m : State} {c : ℕ} → ReadsCode st c m → m.failed ≡ st.failed
+begun_failed g = ap (λ (z : State). z.failed) g.moved
+
 pub deep_fails : (st : State) (m : State) (e : Error) (new : State) → ReadsCode st 0 m → e ≡ depth_error m.nesting
     → m.nesting ≤ length m.saved → new ≡ refused_at (depth_error m.nesting) new.source.fault m → AnswersFault false DescribedFault st e new
 deep_fails st m e new g is deep kept =
@@ -315,43 +321,50 @@ fault_not_one members st e i new (no_member {m} {m'} g t _) o =
     let e : Some i ≡ None = sym o.place ∙ ap (place_of members) d ∙ t.is in
     cc
 
-pub one_fails : (members : List Member) (st : State) (e : Error) (new : State) → AnswersFault false (OneOfFault members) st e new
-    → RefusesRead false (OpensOneOf members) (OneOfFault members) st e new
-one_fails members st e new f = record { kept = f.kept; again = f.again; named = f.named; none = none st.error refl }
-  where
-    none : (o : Option Error) → st.error ≡ o → IsExcused false e new ⊎ ((i : ℕ) (b : State) → OpensOneOf members st i b → ⊥)
-    none None g = elim (f.named g) [ inl x ↦ inl x | inr x ↦ inr (λ i b o. fault_not_one members st e i b x o) ]
-    none (Some d) g = inr (λ i b o. let h = o.opens.begun.going in absurd (cc))
+one_refused : (members : List Member) (st : State) (m : State) (e : Error) (new : State) → ReadsCode st 0 m → Answers m e new
+    → IsExcused false e new ⊎ IsPlaced (At (one_of_left members) st) st e new
+    → RefusesAt false (OpensOneOf members) (At (one_of_left members)) st e new
+one_refused members st m e new g kept why = record {
+  kept = answered_begun g kept;
+  again = λ d x. let h = g.going in absurd (cc);
+  named = λ going. why;
+  none = elim why [ inl x ↦ inl x | inr (left, x, p) ↦ inr (λ i b o. fault_not_one members st e i b x.0 o) ];
+}
 
 pub one_unbegun : (members : List Member) (st : State) (e : Error) (new : State) → AnswersFault false DescribedFault st e new
-    → RefusesRead false (OpensOneOf members) (OneOfFault members) st e new
-one_unbegun members st e new f =
-    one_fails members st e new
-    (record { kept = f.kept; again = f.again; named = λ g. elim (f.named g) [ inl x ↦ inl x | inr x ↦ inr (not_described x) ] })
+    → StandsHere st new → RefusesAt false (OpensOneOf members) (At (one_of_left members)) st e new
+one_unbegun members st e new f here = record { kept = f.kept; again = f.again; named = λ g. named g (f.named g); none = none st.error refl }
+  where
+    named : st.error ≡ None → IsExcused false e new ⊎ DescribedFault st e
+        → IsExcused false e new ⊎ IsPlaced (At (one_of_left members) st) st e new
+    named g (inl x) = inl x
+    named g (inr x) = inr (length st.rest, (not_described x, refl), here g)
+
+    none : (o : Option Error) → st.error ≡ o → IsExcused false e new ⊎ ((i : ℕ) (b : State) → OpensOneOf members st i b → ⊥)
+    none None g = elim (f.named g) [ inl x ↦ inl x | inr x ↦ inr (λ i b o. fault_not_one members st e i b (not_described x) o) ]
+    none (Some d) g = inr (λ i b o. let h = o.opens.begun.going in absurd (cc))
 
 pub one_missed : (members : List Member) (st : State) (m : State) (e : Error) (new : State) → ReadsCode st 0 m
-    → MissesDescriptor false m e new → RefusesRead false (OpensOneOf members) (OneOfFault members) st e new
-one_missed members st m e new g f =
-    one_fails members st e new
-    (begun_fails (OneOfFault members) st 0 m e new g f.kept (elim f.why [ inl x ↦ inl x | inr (none, x) ↦ inr (no_descriptor g none x) ]))
+    → MissesDescriptor false m e new → IsPlaceOf new.source.fault m → RefusesAt false (OpensOneOf members) (At (one_of_left members)) st e new
+one_missed members st m e new g f p =
+    one_refused members st m e new g f.kept
+    (elim f.why [
+      | inl x ↦ inl x
+      | inr (none, x) ↦ inr (length m.rest, (no_descriptor g none x, refl), before_later st m (length m.rest) new (begun_failed g) p)
+    ])
 
-pub one_other : (members : List Member) (st : State) (m : State) (named : State) (e : Error) (new : State) → ReadsCode st 0 m
-    → TakesPlace members m None named → e ≡ WrongDescriptor → Answers named e new
-    → RefusesRead false (OpensOneOf members) (OneOfFault members) st e new
-one_other members st m named e new g t is kept =
-    one_fails members st e new (begun_fails (OneOfFault members) st 0 m e new g (answered_took t.took.took kept) (inr (no_member g t is)))
+pub one_other : (members : List Member) (st : State) (m : State) (named : State) (e : Error) (place : ℕ) (new : State) → ReadsCode st 0 m
+    → TakesPlace members m None named → e ≡ WrongDescriptor → Answers named e new → new.source.fault ≡ place → IsPlaceOf place m
+    → RefusesAt false (OpensOneOf members) (At (one_of_left members)) st e new
+one_other members st m named e place new g t is kept there at =
+    one_refused members st m e new g (answered_took t.took.took kept)
+    (inr (length m.rest, (no_member g t is, refl),
+        before_later st m (length m.rest) new (begun_failed g) (before_at m (length m.rest) _ new there at)))
 
-pub one_deep : (members : List Member) (st : State) (m : State) (place : Option ℕ) (named : State) (e : Error) (new : State)
-    → ReadsCode st 0 m → TakesPlace members m place named → e ≡ depth_error named.nesting
-    → named.nesting ≤ length named.saved → new ≡ refused_at (depth_error named.nesting) new.source.fault named
-    → RefusesRead false (OpensOneOf members) (OneOfFault members) st e new
-one_deep members st m place named e new g t is deep kept =
-    let deep_ : m.nesting ≤ length m.saved = subst (λ (z : State). z.nesting ≤ length z.saved) t.took.took.moved deep in
-    let kept_ : Answers m e new = answered_took t.took.took (answered named new e (depth_error named.nesting) kept is) in
-    let is_ : e ≡ depth_error m.nesting = subst (λ (z : State). e ≡ depth_error z.nesting) t.took.took.moved is in
-    one_fails members st e new (begun_fails (OneOfFault members) st 0 m e new g kept_
-    (inr (not_described (too_deep g (subst (λ (z : State). z.nesting ≤ length z.saved) g.moved deep_)
-    (subst (λ (z : State). e ≡ depth_error z.nesting) g.moved is_)))))
+-- what was named nests as deep as what was begun
+pub no_deeper : (m named : State) (s : List ℕ) → Takes m s named → length m.saved < m.nesting → named.nesting ≤ length named.saved → ⊥
+no_deeper m named s t few deep =
+    let deep_ : m.nesting ≤ length m.saved = subst (λ (z : State). z.nesting ≤ length z.saved) t.moved deep in omega (arith, few, deep_)
 
 -- what begins with a member's descriptor is opened
 pub one_entered : (members : List Member) (st : State) (m : State) (named : State) (i : ℕ) (new : State) → ReadsCode st 0 m
@@ -368,39 +381,36 @@ fault_not_open st e d new (nameless {m} g none f) o =
 abbrev Any : State → DescriptorValue → State → Type 0
 Any st d st' = OpensDescribed st (descriptor_of d) st'
 
-any_fails : (st : State) (e : Error) (new : State) → AnswersFault true OpenFault st e new → RefusesRead true Any OpenFault st e new
-any_fails st e new f = record { kept = f.kept; again = f.again; named = f.named; none = none st.error refl }
+pub any_unbegun : (st : State) (e : Error) (new : State) → AnswersFault false DescribedFault st e new → StandsHere st new
+    → RefusesAt true Any (At open_left) st e new
+any_unbegun st e new f here = record { kept = f.kept; again = f.again; named = λ g. named g (f.named g); none = none st.error refl }
   where
+    named : st.error ≡ None → IsExcused false e new ⊎ DescribedFault st e → IsExcused true e new ⊎ IsPlaced (At open_left st) st e new
+    named g (inl x) = inl (excused_by_source true e new x)
+    named g (inr x) = inr (length st.rest, (not_open x, refl), here g)
+
     none : (o : Option Error) → st.error ≡ o → IsExcused true e new ⊎ ((d : DescriptorValue) (b : State) → Any st d b → ⊥)
-    none None g = elim (f.named g) [ inl x ↦ inl x | inr x ↦ inr (λ d b o. fault_not_open st e (descriptor_of d) b x o) ]
+    none None g =
+        elim (f.named g) [
+          | inl x ↦ inl (excused_by_source true e new x)
+          | inr x ↦ inr (λ d b o. fault_not_open st e (descriptor_of d) b (not_open x) o)
+        ]
     none (Some c) g = inr (λ d b o. let h = o.begun.going in absurd (cc))
 
-pub any_unbegun : (st : State) (e : Error) (new : State) → AnswersFault false DescribedFault st e new
-    → RefusesRead true Any OpenFault st e new
-any_unbegun st e new f =
-    any_fails st e new (record {
-      kept = f.kept;
-      again = f.again;
-      named = λ g. elim (f.named g) [ inl x ↦ inl (excused_by_source true e new x) | inr x ↦ inr (not_open x) ];
-    })
-
 pub any_missed : (st : State) (m : State) (e : Error) (new : State) → ReadsCode st 0 m → MissesDescriptor true m e new
-    → RefusesRead true Any OpenFault st e new
-any_missed st m e new g f =
-    any_fails st e new (begun_fails OpenFault st 0 m e new g f.kept
-    (elim f.why [ inl x ↦ inl x | inr (none, x) ↦ inr (nameless g none x) ]))
-
-pub any_deep : (st : State) (m : State) (d : Descriptor) (named : State) (e : Error) (new : State) → ReadsCode st 0 m
-    → TakesDescriptor m d named → (e ≡ depth_error named.nesting) × (named.nesting ≤ length named.saved)
-    × (new ≡ refused_at (depth_error named.nesting) new.source.fault named)
-    → RefusesRead true Any OpenFault st e new
-any_deep st m d named e new g t (is, deep, kept) =
-    let deep_ : m.nesting ≤ length m.saved = subst (λ (z : State). z.nesting ≤ length z.saved) t.took.moved deep in
-    let kept_ : Answers m e new = answered_took t.took (answered named new e (depth_error named.nesting) kept is) in
-    let is_ : e ≡ depth_error m.nesting = subst (λ (z : State). e ≡ depth_error z.nesting) t.took.moved is in
-    any_fails st e new (begun_fails OpenFault st 0 m e new g kept_
-    (inr (not_open (too_deep g (subst (λ (z : State). z.nesting ≤ length z.saved) g.moved deep_)
-    (subst (λ (z : State). e ≡ depth_error z.nesting) g.moved is_)))))
+    → IsPlaceOf new.source.fault m → RefusesAt true Any (At open_left) st e new
+any_missed st m e new g f p = record {
+  kept = answered_begun g f.kept;
+  again = λ d x. let h = g.going in absurd (cc);
+  named = λ going. why;
+  none = elim why [ inl x ↦ inl x | inr (left, x, q) ↦ inr (λ d b o. fault_not_open st e (descriptor_of d) b x.0 o) ];
+}
+  where
+    why : IsExcused true e new ⊎ IsPlaced (At open_left st) st e new
+    why = elim f.why [
+      | inl x ↦ inl x
+      | inr (none, x) ↦ inr (length m.rest, (nameless g none x, refl), before_later st m (length m.rest) new (begun_failed g) p)
+    ]
 
 pub any_entered : (st : State) (m : State) (d : Descriptor) (named : State) (new : State) → ReadsCode st 0 m → TakesDescriptor m d named
     → (length named.saved < named.nesting) × (new ≡ in_described named) → OpensDescribed st d new

@@ -1,5 +1,5 @@
 -- Constructors that are taken and kept.
-use Rattle.std.proofs.Common.{◌≡◌, ◌≤◌, ℕ, ◌+◌, ◌⊎◌, inl, inr, arith, true, Some, List, [], ◌∷◌, ◌++◌, length, refl, sym, ap, ◌∙◌, subst}
+use Rattle.std.proofs.Common.{◌≡◌, ◌≤◌, ℕ, ◌+◌, ◌⊎◌, inl, inr, arith, true, Some, List, [], ◌∷◌, ◌++◌, suc, length, refl, sym, ap, ◌∙◌, subst}
 use Rattle.std.proofs.Common.{append_assoc, length-append}
 use Rattle.std.specs.Int.{bytes_high_first, w8, w64, from_be_bytes}
 use Rattle.amqp_model.specs.Term.{Descriptor, name, code, symbol}
@@ -16,12 +16,14 @@ use Rattle.amqp_decoder.specs.Steps.{Answers, Takes, Lacks, Stops}
 use Rattle.amqp_lookahead.specs.Kinds.{kind_at}
 use Rattle.amqp_decoder.specs.Primitives.{LacksData, IsWhole}
 use Rattle.amqp_decoder.specs.Described.{other_kind, DescriptorFault, no_code, no_kind, no_data, non_ascii}
-use Rattle.amqp_decoder.specs.Arrays.{TakesMarks, ConstructorFault}
+use Rattle.amqp_decoder.specs.Arrays.{TakesMarks, constructor_left}
+use Rattle.amqp_decoder.specs.Places.{Here, At, StandsBefore, StopsAt}
 use Rattle.amqp_decoder.specs.Terms.{Keeps, IsSymbol, SymbolFault, no_text, no_ascii, IsConstructor}
 use Rattle.amqp_lookahead.proofs.KindsOfCodes.{not_two, not_three}
 use Rattle.amqp_decoder.proofs.SizedTexts.{no_text_value}
-use Rattle.amqp_decoder.proofs.Constructed.{TookNamed, ends_known, stopped_code, stopped_mark, stopped_unknown}
-use Rattle.amqp_decoder.proofs.Steps.{answered, answered_so, answered_took, stopped_as, stopped_later}
+use Rattle.amqp_decoder.proofs.Constructed.{TookNamed, ends_known, stopped_code, stopped_many, stopped_mark, stopped_unknown}
+use Rattle.amqp_decoder.proofs.Steps.{answered_so, answered_took, stopped_as, stopped_later}
+use Rattle.amqp_decoder.proofs.Places.{stops_as, stops_unplaced}
 use Rattle.amqp_decoder.proofs.KeptBytes.{keeps_both, keeps_as}
 
 -- the code of a descriptor, and its data
@@ -49,8 +51,10 @@ pub symbol_32_means : (x : List ℕ) → IsSymbol 4 x → (d : Descriptor) × Pr
 symbol_32_means x (s, ascii, (fits, is)) = (name s, (s, fits, is, refl, ascii))
 
 -- why no descriptor is kept
-pub unnamed_code : (st : State) (e : Error) (new : State) → Stops true (Lacks 1 st) st e new → Stops true (DescriptorFault st) st e new
-unnamed_code st e new s = stopped_as (Lacks 1 st) (DescriptorFault st) st e new (λ d x. no_code x) s
+pub unnamed_code : (st : State) (e : Error) (new : State) → StopsAt true (Here (Lacks 1) st) st e new
+    → Stops true (DescriptorFault st) st e new
+unnamed_code st e new s =
+    stopped_as (Lacks 1 st) (DescriptorFault st) st e new (λ d x. no_code x) (stops_unplaced (Lacks 1) s)
 
 code_took : (c : ℕ) (a b : List ℕ) (st m : State) → Keeps (λ s. s ≡ c ∷ []) a st b m → Takes st (c ∷ []) m
 code_took c a b st m h = subst (λ l. Takes st l m) h.is h.took
@@ -138,21 +142,20 @@ constructor_kept n c a b st m new few some h (known, same) =
 
 -- why no constructor is kept
 pub unmarked_deep : (n : ℕ) (a b : List ℕ) (st m : State) (e : Error) (new : State) → n ≡ 128 → Keeps (IsMarked n 0) a st b m → e ≡ Depth
-    → new ≡ refused_at Depth new.source.fault m → Stops true (ConstructorFault st) st e new
-unmarked_deep n a b st m e new many h is kept =
-    stopped_mark st h.is.0 n m e new (sym h.is.1) (marked_took n 0 a b st m h)
-    (record { kept = answered m new e Depth kept is; why = inr (inl (is, omega arith)) })
+    → new ≡ refused_at Depth new.source.fault m → StandsBefore (suc (length m.rest)) m new → StopsAt true (At constructor_left st) st e new
+unmarked_deep n a b st m e new many h is kept p =
+    stopped_mark st h.is.0 n m e new (sym h.is.1) (marked_took n 0 a b st m h) (stopped_many m n e new (omega arith) is kept p)
 
 pub unmarked_name : (n : ℕ) (a b : List ℕ) (st m : State) (e : Error) (new : State) → Keeps (IsMarked n 0) a st b m
-    → Stops true (DescriptorFault m) m e new → Stops true (ConstructorFault st) st e new
+    → StopsAt true (Here DescriptorFault m) m e new → StopsAt true (At constructor_left st) st e new
 unmarked_name n a b st m e new h s =
-    stopped_mark st h.is.0 n m e new (sym h.is.1) (marked_took n 0 a b st m h)
-    (stopped_as (DescriptorFault m) (λ d. ((d ≡ Depth) × (128 ≤ n)) ⊎ DescriptorFault m d) m e new (λ d x. inr x) s)
+    stopped_mark st h.is.0 n m e new (sym h.is.1) (marked_took n 0 a b st m h) (stops_as {st = m} (λ f x. inr x) s)
 
 pub unmarked_code : (n : ℕ) (a b : List ℕ) (st m : State) (e : Error) (new : State) → Keeps (IsNamed n) a st b m
-    → Stops true (Lacks 1 m) m e new → Stops true (ConstructorFault st) st e new
+    → StopsAt true (Here (Lacks 1) m) m e new → StopsAt true (At constructor_left st) st e new
 unmarked_code n a b st m e new h s = stopped_code st h.is.0 m e new (named_took n a b st m h) s
 
 pub unmarked_unknown : (n c : ℕ) (a b : List ℕ) (st m : State) (e : Error) (new : State) → Keeps (IsMarked n c) a st b m
-    → (c ≡ 0 → ⊥) × (IsKnown (format c) → ⊥) × (e ≡ refusal_of c) × Answers m e new → Stops true (ConstructorFault st) st e new
-unmarked_unknown n c a b st m e new h s = stopped_unknown st h.is.0 c m e new (marked_took n c a b st m h) s
+    → (c ≡ 0 → ⊥) × (IsKnown (format c) → ⊥) × (e ≡ refusal_of c) × Answers m e new → StandsBefore (suc (length m.rest)) m new
+    → StopsAt true (At constructor_left st) st e new
+unmarked_unknown n c a b st m e new h s p = stopped_unknown st h.is.0 c m e new (marked_took n c a b st m h) s p

@@ -1,5 +1,5 @@
 -- Whole terms that are taken and kept.
-use Rattle.std.proofs.Common.{◌≡◌, ◌≤◌, ◌<◌, ◌-◌, ◌^◌, ◌⊎◌, ℕ, inl, inr, arith, true, false, None, Some, List, [], ◌++◌, length, take, drop, refl}
+use Rattle.std.proofs.Common.{◌≡◌, ◌≤◌, ◌<◌, ◌+◌, ◌-◌, ◌%◌, ◌^◌, ◌⊎◌, ℕ, inl, inr, arith, true, false, None, Some, List, [], ◌++◌, length, take, drop, refl}
 use Rattle.std.proofs.Common.{sym, ap, ◌∙◌, subst, append_assoc, append-nil, length-append}
 use Rattle.std.proofs.lemmas.List.{drop_at, take-append-drop}
 use Rattle.std.specs.Int.{bytes_high_first}
@@ -10,23 +10,27 @@ use Rattle.amqp_model.specs.Measures.{nest, weight}
 use Rattle.amqp_model.proofs.Bytes.{rest, field, length-bytes}
 use Rattle.amqp_model.proofs.Same.{constructor_same}
 use Rattle.amqp_wire.specs.declared.error.Error.{Error}
-use Rattle.amqp_wire.specs.declared.error.Error.TheVariants.{Size, Limit}
+use Rattle.amqp_wire.specs.declared.error.Error.TheVariants.{Size, Missing, LazyInArray, Limit}
+use Rattle.amqp_lengths.specs.Faults.{TermFault as TermFaultIn}
 use Rattle.amqp_lengths.specs.Fronts.{IsFront, Refuses}
 use Rattle.amqp_lengths.specs.Lengths.{IsTerm}
 use Rattle.amqp_lengths.specs.Announced.{SizeThen, content_size, IsAnnounced}
 use Rattle.amqp_lengths.proofs.Announced.{announced_data, announced_once}
 use Rattle.amqp_decoder.proofs.Counts.{unshared_weight}
-use Rattle.amqp_decoder.specs.State.{refused_at, State, Has, lower, after_data, after_value, weight_at, uncounted}
-use Rattle.amqp_decoder.specs.Steps.{Answers, IsExcused, Takes, Lacks, Stops}
-use Rattle.amqp_decoder.specs.Reading.{RefusesRead}
+use Rattle.amqp_decoder.specs.State.{refused_at, depth_error, IsPlaceOf, State, Has, lower, after_data, after_value, weight_at, uncounted}
+use Rattle.amqp_decoder.specs.Steps.{Answers, IsExcused, Takes, Lacks, Stops, RefusesSize}
+use Rattle.amqp_decoder.specs.Places.{StandsHere, StandsBefore, Located, At, IsPlaced, StopsAt, RefusesAt}
+use Rattle.amqp_decoder.specs.Reading.{RefusesRead, IsLeft}
 use Rattle.amqp_decoder.specs.Primitives.{standing, SpellsAs, Stands}
-use Rattle.amqp_decoder.specs.Arrays.{TakesConstructor, ConstructorFault}
+use Rattle.amqp_decoder.specs.Arrays.{TakesConstructor, constructor_left}
 use Rattle.amqp_decoder.specs.Terms.{Keeps, IsConstructor, LacksAnnounced, NoTerm, wrong_size, wrong_term, SpellingFault, no_constructor}
 use Rattle.amqp_decoder.specs.Terms.{no_data, no_term, TakesTerm, TermFault, missing, in_array, misspelled, too_many}
+use Rattle.amqp_decoder.specs.Terms.{term_left, spelling_left, term_fault_left}
 use Rattle.amqp_decoder.proofs.Constructed.{code_known, constructor_not, one_constructor, took_parts}
 use Rattle.amqp_decoder.proofs.OneReading.{stands_same}
 use Rattle.amqp_decoder.proofs.Opening.{took_both}
-use Rattle.amqp_decoder.proofs.Steps.{answered, answered_took, excused_by_source, not_lacking, stopped_as, stopped_later}
+use Rattle.amqp_decoder.proofs.Steps.{answered, answered_so, answered_took, excused_by_source, not_lacking}
+use Rattle.amqp_decoder.proofs.Places.{before_at, placed_later, either_placed, stops_as}
 
 -- announced data that stands there isn't lacking
 sized_there : (w : ℕ) (size_of : ℕ → ℕ) (m m' : State) (e : Error) (b : List ℕ)
@@ -211,26 +215,83 @@ term_kept c n a b l st m m' new empty h k f same =
 pub known_code : (c : ℕ) (b : List ℕ) → IsConstructor c b → IsKnown (format c)
 known_code c b (ds, few, h) = code_known ds c b h
 
-pub no_constructor_kept : (st : State) (e : Error) (new : State) → Stops true (ConstructorFault st) st e new
-    → Stops true (SpellingFault st) st e new
-no_constructor_kept st e new s = stopped_as (ConstructorFault st) (SpellingFault st) st e new (λ d x. no_constructor x) s
+-- at a place in these bytes, which were taken and began at the start
+behind_start : (start at long rest size : ℕ) → at ≤ long → (start + (long + rest)) % 2 ^ 64 ≡ size
+    → ((start + at) % 2 ^ 64 + (long - at + rest)) % 2 ^ 64 ≡ size
+behind_start start at long rest size within h = omega (arith, within, h)
 
-pub no_data_kept : (c : ℕ) (a b : List ℕ) (st m : State) (e : Error) (new : State) → Keeps (IsConstructor c) a st b m
-    → Stops true (LacksAnnounced (format c) m) m e new → Stops true (SpellingFault st) st e new
-no_data_kept c a b st m e new h s =
+module _ (nesting : ℕ) (b : List ℕ) (st : State) (at start : ℕ) (new : State) (within : at ≤ length b)
+    (there : new.source.fault ≡ (start + at) % 2 ^ 64) (began : (start + (length b + length st.rest)) % 2 ^ 64 ≡ st.failed.size) where
+  stands_there : StandsBefore (length b - at + length st.rest) st new
+  stands_there =
+      before_at st (length b - at + length st.rest) ((start + at) % 2 ^ 64) new there
+      (behind_start start at (length b) (length st.rest) st.failed.size within began)
+
+  -- they have the wrong size
+  pub size_refused : (e : Error) → Refuses (IsTerm nesting) b Size → TermFaultIn (depth_error st.nesting) nesting b Size (length b - at)
+      → RefusesSize 0 st e new → StopsAt false (At (term_left nesting b) st) st e new
+  size_refused e none f s = record {
+    kept = s.kept;
+    why = elim s.why [
+      | inl x ↦ inl (inr x)
+      | inr x ↦ inr (length b - at + length st.rest, (wrong_size none (length b - at, f) x, refl), stands_there)
+    ];
+  }
+
+  -- or are otherwise no term
+  pub term_refused_at : (e d : Error) → Refuses (IsTerm nesting) b d → TermFaultIn (depth_error st.nesting) nesting b d (length b - at)
+      → (d ≡ Size → ⊥) → e ≡ d → new ≡ refused_at d new.source.fault st → StopsAt false (At (term_left nesting b) st) st e new
+  term_refused_at e d none f other is kept = record {
+    kept = answered st new e d kept is;
+    why = subst (λ x. IsExcused false x new ⊎ IsPlaced (At (term_left nesting b) st) st x new) (sym is)
+        (inr (length b - at + length st.rest, (wrong_term none (length b - at, f) other, refl), stands_there));
+  }
+
+pub no_constructor_kept : (st : State) (e : Error) (new : State) → StopsAt true (At constructor_left st) st e new
+    → StopsAt true (At spelling_left st) st e new
+no_constructor_kept st e new s = stops_as {st = st} (λ f x. (no_constructor x.0, x.1)) s
+
+-- of a term that begins at the place
+pub no_data_kept : (c : ℕ) (a b : List ℕ) (st m : State) (e : Error) (place : ℕ) (new : State) → Keeps (IsConstructor c) a st b m
+    → Stops true (LacksAnnounced (format c) m) m e new → new.source.fault ≡ place → IsPlaceOf place st
+    → StopsAt true (At spelling_left st) st e new
+no_data_kept c a b st m e place new h s there at =
     let t : TakesConstructor st h.is.0 c m = record { own = h.own; few = h.is.1; spelled = h.is.2; took = h.took } in
-    stopped_later (LacksAnnounced (format c) m) (SpellingFault st) st m h.own e new h.took (λ d l. no_data t l) s
+    record {
+      kept = answered_took h.took s.kept;
+      why = elim s.why [
+        | inl x ↦ inl x
+        | inr x ↦ inr (length st.rest, (no_data t x, refl), before_at st (length st.rest) _ new there at)
+      ];
+    }
+
+-- the term began so many bytes in front of what is left behind its own
+pub began_before : (c place : ℕ) (a b l : List ℕ) (st m m' : State) → a ≡ [] → Keeps (IsConstructor c) a st b m
+    → Keeps (IsAnnounced (format c)) b m l m' → IsPlaceOf place st → (place + (length l + length m'.rest)) % 2 ^ 64 ≡ m'.failed.size
+began_before c place a b l st m m' empty h k at =
+    let p = parts_of c a b l st m m' empty h k in
+    let both : Takes st (p.constructor.own ++ p.data_) m' = took_both st p.mid m' p.constructor.own p.data_ p.constructor.took p.took in
+    let whole : Takes st l m' = subst (λ z. Takes st z m') (sym p.is) both in
+    let long : length st.rest ≡ length l + length m'.rest =
+    ap length whole.rest ∙ length-append l (drop (length l) st.rest) ∙ ap (λ (z : State). length l + length z.rest) (sym whole.moved) in
+    ap (λ n. (place + n) % 2 ^ 64) (sym long) ∙ at ∙ ap (λ (z : State). z.failed.size) (sym whole.moved)
 
 pub no_term_kept : (c : ℕ) (a b l : List ℕ) (st m m' : State) (e : Error) (new : State) → a ≡ [] → Keeps (IsConstructor c) a st b m
-    → Keeps (IsAnnounced (format c)) b m l m' → Stops false (NoTerm (m'.nesting - length m'.saved) l m') m' e new
-    → Stops true (SpellingFault st) st e new
+    → Keeps (IsAnnounced (format c)) b m l m' → StopsAt false (At (term_left (m'.nesting - length m'.saved) l) m') m' e new
+    → StopsAt true (At spelling_left st) st e new
 no_term_kept c a b l st m m' e new empty h k s =
     let p = parts_of c a b l st m m' empty h k in
-    let moved = λ (x : NoTerm (m'.nesting - length m'.saved) l m' e). subst (λ j. NoTerm j (p.constructor.own ++ p.data_) m' e) p.nesting
-    (subst (λ z. NoTerm (m'.nesting - length m'.saved) z m' e) p.is x) in
+    let moved = λ (f : Located) (x : At (term_left (m'.nesting - length m'.saved) l) m' f).
+    subst (λ j. At (term_left j (p.constructor.own ++ p.data_)) m' f) p.nesting
+    (subst (λ z. At (term_left (m'.nesting - length m'.saved) z) m' f) p.is x) in
+    let same : m'.failed ≡ st.failed = ap (λ (z : State). z.failed) k.took.moved ∙ ap (λ (z : State). z.failed) h.took.moved in
     record {
       kept = answered_took h.took (answered_took k.took s.kept);
-      why = elim s.why [ inl x ↦ inl (excused_by_source true e new x) | inr x ↦ inr (no_term p.constructor p.took p.announced (moved x)) ];
+      why = elim s.why [
+        | inl x ↦ inl (excused_by_source true e new x)
+        | inr x ↦ inr (placed_later {g = At spelling_left st} st m' new same
+            (λ f y. let z = moved f y in (no_term p.constructor p.took p.announced z.0, z.1)) x)
+      ];
     }
 
 -- a term was taken, and counts
@@ -259,30 +320,56 @@ abbrev Any : {A : Type 0} → (A → List ℕ) → State → A → State → Typ
 Any items st v st' = TakesTerm st (items v) st'
 
 term_refused : {A : Type 0} (items : A → List ℕ) (st : State) (e : Error) (new : State) → st.error ≡ None → Answers st e new
-    → IsExcused true e new ⊎ TermFault st e → RefusesRead true (Any items) TermFault st e new
+    → IsExcused true e new ⊎ IsPlaced (At term_fault_left st) st e new → RefusesAt true (Any items) (At term_fault_left) st e new
 term_refused items st e new going kept why = record {
   kept = kept;
   again = λ d x. absurd (cc);
   named = λ g. why;
-  none = elim why [ inl x ↦ inl x | inr x ↦ inr (λ v b h. fault_not_takes st e (items v) b x h) ];
+  none = elim why [ inl x ↦ inl x | inr (left, x, p) ↦ inr (λ v b h. fault_not_takes st e (items v) b x.0 h) ];
 }
 
+-- none is left, or it is an item of an array
+pub term_missing : {A : Type 0} (items : A → List ℕ) (st : State) (e : Error) (new : State)
+    → RefusesRead false IsLeft (λ st e. (st.top.items ≡ Some 0) × (e ≡ Missing)) st e new → StandsHere st new
+    → RefusesAt true (Any items) (At term_fault_left) st e new
+term_missing items st e new r here = record {
+  kept = r.kept;
+  again = r.again;
+  named = λ g. elim (r.named g) [
+    | inl x ↦ inl (excused_by_source true e new x)
+    | inr x ↦ inr (length st.rest, (missing x.0 x.1, refl), here g)
+  ];
+  none = elim r.none [
+    | inl x ↦ inl (excused_by_source true e new x)
+    | inr f ↦ inr (λ v b h. f tt st (record { going = h.stands.going; item = h.stands.item; kept = refl }))
+  ];
+}
+
+pub term_in_array : {A : Type 0} (items : A → List ℕ) (st : State) (e : Error) (new : State) → st.error ≡ None → Has st.top.items 1
+    → (st.top.shared ≡ None → ⊥) → e ≡ LazyInArray → new ≡ refused_at e new.source.fault st → IsPlaceOf new.source.fault st
+    → RefusesAt true (Any items) (At term_fault_left) st e new
+term_in_array items st e new going item shared is kept p =
+    term_refused items st e new going (answered_so st new e kept) (inr (length st.rest, (in_array item shared is, refl), p))
+
 pub term_misspelled : {A : Type 0} (items : A → List ℕ) (st : State) (e : Error) (new : State) → st.error ≡ None → Has st.top.items 1
-    → st.top.shared ≡ None → Stops true (SpellingFault st) st e new → RefusesRead true (Any items) TermFault st e new
+    → st.top.shared ≡ None → StopsAt true (At spelling_left st) st e new → RefusesAt true (Any items) (At term_fault_left) st e new
 term_misspelled items st e new going item none s =
-    term_refused items st e new going s.kept (elim s.why [ inl x ↦ inl x | inr x ↦ inr (misspelled item none x) ])
+    term_refused items st e new going s.kept (either_placed {f = At spelling_left st} {g = At term_fault_left st} st st new refl (λ f x. (misspelled item none x.0, x.1)) s.why)
 
 -- one value more than may begin
 pub term_full : {A : Type 0} (items : A → List ℕ) (st m : State) (b : List ℕ) (e : Error) (new : State) → st.error ≡ None
     → Has st.top.items 1 → st.top.shared ≡ None → Takes st b m → (h : IsTerm (st.nesting - length st.saved) b)
-    → (Has m.quota (weight h.0 false) → ⊥) → e ≡ Limit → new ≡ refused_at Limit new.source.fault m → RefusesRead true (Any items) TermFault st e new
+    → (Has m.quota (weight h.0 false) → ⊥) → e ≡ Limit → new ≡ refused_at Limit new.source.fault m → (place : ℕ) → new.source.fault ≡ place
+    → IsPlaceOf place st → RefusesAt true (Any items) (At term_fault_left) st e new
 unfolding term_taken
-term_full items st m b e new going item none t h full is kept =
+term_full items st m b e new going item none t h full is kept place there at =
     let free : Takes (uncounted st) b (uncounted m) = record { room = t.room; rest = t.rest; moved = ap uncounted t.moved } in
     let taken = term_taken (uncounted st) (uncounted m) b going item none free h tt in
+    let fault : TermFault st e =
+    too_many taken (λ x. subst (λ (z : State). Has z.quota (weight h.0 false) → ⊥) t.moved full
+    (subst (Has st.quota) (unshared_weight st.top.shared h.0 none) x)) is in
     term_refused items st e new going (answered_took t (answered m new e Limit kept is))
-    (inr (too_many taken (λ x. subst (λ (z : State). Has z.quota (weight h.0 false) → ⊥) t.moved full
-    (subst (Has st.quota) (unshared_weight st.top.shared h.0 none) x)) is))
+    (inr (length st.rest, (fault, refl), before_at st (length st.rest) _ new there at))
 
 pub nests_at_most : (k n saved : ℕ) → k ≤ n - saved → n ≤ 128 → k ≤ 128
 nests_at_most k n saved h most = omega arith

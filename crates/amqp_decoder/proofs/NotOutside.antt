@@ -9,7 +9,7 @@ use Rattle.amqp_wire.specs.declared.error.Error.{Error}
 use Rattle.amqp_decoder.specs.declared.frame.Place.{Place}
 use Rattle.amqp_decoder.specs.declared.frame.Place.TheVariants.{InArray}
 use Rattle.amqp_decoder.specs.State.{refused_at, State, depth_error, in_container}
-use Rattle.amqp_decoder.specs.Steps.{Fails, IsOutside, IsReadError, Lacks, cut_open, past_limit, cut_inside, too_long, SizeError, cut, wrong, past}
+use Rattle.amqp_decoder.specs.Steps.{unsized, Fails, IsOutside, IsReadError, Lacks, cut_open, past_limit, cut_inside, too_long, SizeError, cut, wrong, past}
 use Rattle.amqp_decoder.specs.Misspelled.{IsMisspelling}
 use Rattle.amqp_decoder.specs.Reading.{BeginFault, missing, no_code, one_too_many}
 use Rattle.amqp_decoder.specs.Primitives.{LacksData, PrimitiveFault, not_begun, wrong_code, no_data, bad_data}
@@ -24,7 +24,7 @@ use Rattle.amqp_decoder.specs.Described as described
 use Rattle.amqp_decoder.specs.Described.{not_open, nameless}
 use Rattle.amqp_decoder.specs.Arrays as arrays
 use Rattle.amqp_decoder.specs.Arrays.{ConstructorFault, no_mark, too_many, no_known_code, SharesFault, no_constructor, zero_width}
-use Rattle.amqp_decoder.specs.Arrays.{too_nested, EnterArrayFault, no_start, ArrayFault}
+use Rattle.amqp_decoder.specs.Arrays.{too_nested, OpenItemsFault, EnterArrayFault, no_items_opened, no_start, ArrayFault}
 use Rattle.amqp_decoder.specs.Terms as terms
 use Rattle.amqp_decoder.specs.Terms.{LacksAnnounced, NoTerm, wrong_size, wrong_term, SpellingFault, no_term, TermFault, in_array}
 use Rattle.amqp_decoder.specs.Terms.{misspelled}
@@ -159,10 +159,13 @@ shares_not_outside out n st (no_constructor f) = constructor_not_outside out st 
 shares_not_outside out n st (zero_width ds c m some t wide is) = subst IsOutside is out
 shares_not_outside out n st (too_nested ds c m some t uneven deep is) = depth_not_outside out _ is
 
+open_items_not_outside : {e : Error} → IsOutside e → (w : ℕ) (st : State) → OpenItemsFault w st e → ⊥
+open_items_not_outside out w st (arrays.no_header f) = header_not_outside out false w st f
+open_items_not_outside out w st (arrays.no_room n content m h r) = size_not_outside out content m r.why
+open_items_not_outside out w st (arrays.too_deep n content m h deep is) = depth_not_outside out _ is
+
 enter_array_not_outside : {e : Error} → IsOutside e → (w : ℕ) (st : State) → EnterArrayFault w st e → ⊥
-enter_array_not_outside out w st (arrays.no_header f) = header_not_outside out false w st f
-enter_array_not_outside out w st (arrays.no_room n content m h r) = size_not_outside out content m r.why
-enter_array_not_outside out w st (arrays.too_deep n content m h deep is) = depth_not_outside out _ is
+enter_array_not_outside out w st (no_items_opened f) = open_items_not_outside out w st f
 enter_array_not_outside out w st (no_start n content m h some f) = shares_not_outside out n (in_container InArray 0 content m) f
 
 pub array_not_outside : {e : Error} → IsOutside e → (st : State) → ArrayFault st e → ⊥
@@ -203,7 +206,7 @@ fails_by_length takes a b e d deep n nesting s named limited is h f =
     let plain = λ (out : IsOutside e). length_not_outside (subst IsOutside is out) n nesting s
     (subst (λ x. lengths.HasFault x nesting s d) named f) in (
       ap (λ (x : State). x.error) h ∙ ap Some (sym is),
-      inl (ap (λ (x : State). x.failed) h),
+      inl (ap (λ (x : State). unsized x.failed) h),
       λ m. absurd (plain (subst IsOutside (sym m) tt)),
       λ r. absurd (plain (read_is_outside e r)),
       λ l. ap (λ (x : State). x.failed.free) h ∙ limited (by_deep (sym is ∙ l)),

@@ -15,7 +15,7 @@ use Rattle.amqp_wire.specs.declared.error.Error.{Error}
 use Rattle.amqp_decoder.specs.declared.frame.OpenContainer.{OpenContainer}
 use Rattle.amqp_decoder.specs.declared.frame.Place.{Place}
 use Rattle.amqp_decoder.specs.declared.frame.Place.TheVariants.{Top, InList, InMap, InArray, InDescribed}
-use Rattle.amqp_decoder.specs.State.{Course, DescriptorValues, Open, Source, open_of, items_of, shared_of, descriptor_of, State, stack, unused, bytes_left}
+use Rattle.amqp_decoder.specs.State.{Course, DescriptorValues, Open, Reader, open_of, items_of, shared_of, descriptor_of, State, stack, unused, bytes_left}
 use Rattle.amqp_decoder.specs.State.{shared_in, AreNested, IsLevel, AreBounded, IsContainer, left_in, is_sized, emptied, limit_around}
 use Rattle.amqp_decoder.specs.Row.{left_of}
 use Rattle.amqp_decoder.specs.Rooms.{IsRoomy}
@@ -305,12 +305,12 @@ put_behind ds es l limit d fs m n c last nested within rows is put some end_ =
       stack_kept l ds limit n d fs n front (omega arith) (added_front ds es l n few put),
     )
 
-abbrev state_of : List ℕ → ℕ → Source → ℕ → Option ℕ → Option Error → Course → Open → List Open → State
+abbrev state_of : List ℕ → ℕ → Reader → ℕ → Option ℕ → Option Error → Course → Open → List Open → State
 state_of r a s n q e f t ts =
     record { rest = r; ahead = a; source = s; top = t; saved = ts; nesting = n; quota = q; error = e; failed = f }
 
 -- two states that differ in their containers alone
-pub same_view : (r : List ℕ) (a : ℕ) (s : Source) (n : ℕ) (q : Option ℕ) (e : Option Error) (f : Course) (t u : Open) (ts us : List Open) → t ≡ u → ts ≡ us
+pub same_view : (r : List ℕ) (a : ℕ) (s : Reader) (n : ℕ) (q : Option ℕ) (e : Option Error) (f : Course) (t u : Open) (ts us : List Open) → t ≡ u → ts ≡ us
     → state_of r a s n q e f t ts ≡ state_of r a s n q e f u us
 same_view r a s n q e f t u ts us h k = ap₂ (state_of r a s n q e f) h k
 

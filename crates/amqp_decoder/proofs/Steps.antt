@@ -252,6 +252,13 @@ refused_third st a m e new (going, none, same) (kept, on) (error, failed, memory
   ),
 )
 
+-- a call behind another was refused
+pub refused_second : {takes : Bool} (st a : State) (e : Error) (new : State) → Began st a → Fails takes a e new → Refused takes st e new
+refused_second st a e new (going, none, same) (error, failed, memory, read, limit) = (
+  λ d x. absurd (cc),
+  λ g. (error, elim failed [ inl h ↦ inl (h ∙ same) | inr h ↦ inr h ], memory, read, limit),
+)
+
 -- a call behind two others
 pub tried_third : {A : Type 0} (takes : Bool) (st a m : State) (r : Result A Error) (new : State) → Began st a → GoesOn a m
     → Goes false m r new → Tries takes st r new

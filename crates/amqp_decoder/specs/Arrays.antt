@@ -1,5 +1,5 @@
 -- What the calls that begin arrays promise (Part 1, sections 1.2.4 and 1.6.24).
-use Rattle.std.specs.Prelude.{◌≡◌, ◌<◌, ◌≤◌, ◌⊎◌, ℕ, false, List, [], ◌∷◌, ◌++◌, length, max, Some}
+use Rattle.std.specs.Prelude.{◌≡◌, ◌<◌, ◌≤◌, ◌⊎◌, ℕ, suc, false, List, [], ◌∷◌, ◌++◌, length, max, Some}
 use Rattle.amqp_model.specs.Term.{Descriptor, array}
 use Rattle.amqp_model.specs.Constructors.{Format, compound, format}
 use Rattle.amqp_model.specs.Spelling.{IsKnown, HasWidthZero, Constructor}
@@ -10,6 +10,7 @@ use Rattle.amqp_lengths.specs.Lengths.{Marks}
 use Rattle.amqp_decoder.specs.declared.frame.Place.TheVariants.{InArray}
 use Rattle.amqp_decoder.specs.State.{State, depth_error, Has, in_container}
 use Rattle.amqp_decoder.specs.Steps.{Takes, Lacks, NoRoom}
+use Rattle.amqp_decoder.specs.Places.{Located, Here}
 use Rattle.amqp_decoder.specs.Reading.{ReadsCode, BeginFault}
 use Rattle.amqp_decoder.specs.Containers.{ReadsHeader, HeaderFault}
 use Rattle.amqp_decoder.specs.Described.{DescriptorFault}
@@ -27,6 +28,10 @@ pub record TakesConstructor (st : State) (ds : List Descriptor) (c : ℕ) (st' :
   pub spelled : Constructor ds c own
   pub took : Takes st own st'
 
+-- Behind a 0, and n descriptors before it, none more may stand, or none does.
+abbrev pub NoMarked : ℕ → State → Located → Type 0
+NoMarked n st f = ((f.error ≡ Depth) × (128 ≤ n) × (f.left ≡ suc (length st.rest))) ⊎ Here DescriptorFault st f
+
 -- Why no constructor is taken.
 pub data ConstructorFault (st : State) (e : Error) : Type 0 where
   no_code : (ds : List Descriptor) (own : List ℕ) (m : State) → Marks ds own → Takes st own m → Lacks 1 m e → ConstructorFault st e
@@ -34,6 +39,13 @@ pub data ConstructorFault (st : State) (e : Error) : Type 0 where
   too_many : (ds : List Descriptor) (m : State) → TakesMarks st ds 0 m → 128 ≤ length ds → e ≡ Depth → ConstructorFault st e
   no_known_code : (ds : List Descriptor) (c : ℕ) (m : State) → TakesMarks st ds c m → (c ≡ 0 → ⊥) → (IsKnown (format c) → ⊥)
       → e ≡ refusal_of c → ConstructorFault st e
+
+-- It stands at the code or the descriptor that is at fault: of too many, at the 0 in front of the last.
+abbrev pub constructor_left : (st : State) (e : Error) → ConstructorFault st e → ℕ
+constructor_left st e (no_code ds own m marks took lacks) = length m.rest
+constructor_left st e (no_mark ds m took fault) = length m.rest
+constructor_left st e (too_many ds m took many is) = suc (length m.rest)
+constructor_left st e (no_known_code ds c m took some unknown_ is) = suc (length m.rest)
 
 -- The items of this constructor hold no others.
 abbrev pub IsFlat : List Descriptor → Format → Type 0
@@ -55,6 +67,12 @@ pub data SharesFault (n : ℕ) (st : State) (e : Error) : Type 0 where
       → e ≡ ZeroWidthItems → SharesFault n st e
   too_nested : (ds : List Descriptor) (c : ℕ) (m : State) → (n ≡ 0 → ⊥) → TakesConstructor st ds c m → (IsFlat ds (format c) → ⊥)
       → st.nesting < length st.saved → e ≡ depth_error st.nesting → SharesFault n st e
+
+-- It stands where the constructor does, or in it.
+abbrev pub shares_left : (n : ℕ) (st : State) (e : Error) → SharesFault n st e → ℕ
+shares_left n st e (no_constructor fault) = constructor_left st e fault
+shares_left n st e (zero_width ds c m some took zero is) = length st.rest
+shares_left n st e (too_nested ds c m some took uneven deep is) = length st.rest
 
 -- An array without items may have no constructor.
 abbrev pub Starts : ℕ → ℕ → State → State → Type 0
@@ -78,14 +96,23 @@ pub record EntersArray (width : ℕ) (st : State) (n : ℕ) (st' : State) : Type
   pub few : length st.saved ≤ st.nesting
   pub starts : Starts n content (in_container InArray 0 content mid) st'
 
+-- Why none is entered, as far as its size and its count say.
+pub data OpenItemsFault (width : ℕ) (st : State) (e : Error) : Type 0 where
+  no_header : HeaderFault false width st e → OpenItemsFault width st e
+  no_room : (n content : ℕ) (m : State) → ReadsHeader false width st n content m → NoRoom content m e → OpenItemsFault width st e
+  too_deep : (n content : ℕ) (m : State) → ReadsHeader false width st n content m → st.nesting < length st.saved → e ≡ depth_error st.nesting
+      → OpenItemsFault width st e
+
 -- Why none is entered.
 pub data EnterArrayFault (width : ℕ) (st : State) (e : Error) : Type 0 where
-  no_header : HeaderFault false width st e → EnterArrayFault width st e
-  no_room : (n content : ℕ) (m : State) → ReadsHeader false width st n content m → NoRoom content m e → EnterArrayFault width st e
-  too_deep : (n content : ℕ) (m : State) → ReadsHeader false width st n content m → st.nesting < length st.saved → e ≡ depth_error st.nesting
-      → EnterArrayFault width st e
+  no_items_opened : OpenItemsFault width st e → EnterArrayFault width st e
   no_start : (n content : ℕ) (m : State) → ReadsHeader false width st n content m → 0 < max n content
       → SharesFault n (in_container InArray 0 content m) e → EnterArrayFault width st e
+
+-- It stands where the array begins, from where on there are so many bytes, or in its constructor.
+abbrev pub enter_left : (own width : ℕ) (st : State) (e : Error) → EnterArrayFault width st e → ℕ
+enter_left own width st e (no_items_opened fault) = own
+enter_left own width st e (no_start n content m header some fault) = shares_left n (in_container InArray 0 content m) e fault
 
 -- An array of n items stood next, as far as its items, and it was entered.
 pub record OpensArray (st : State) (n : ℕ) (st' : State) : Type 0 where
@@ -102,3 +129,9 @@ pub data ArrayFault (st : State) (e : Error) : Type 0 where
   wrong_code : (c : ℕ) (m : State) → ReadsCode st c m → ((width : ℕ) → format c ≡ compound array width → ⊥)
       → e ≡ refusal_of c → ArrayFault st e
   no_data : (c width : ℕ) (m : State) → ReadsCode st c m → format c ≡ compound array width → EnterArrayFault width m e → ArrayFault st e
+
+-- It stands where the array begins, or in its constructor.
+abbrev pub array_left : (st : State) (e : Error) → ArrayFault st e → ℕ
+array_left st e (not_begun fault) = length st.rest
+array_left st e (wrong_code c m begun other is) = length st.rest
+array_left st e (no_data c width m begun is fault) = enter_left (length st.rest) width m e fault

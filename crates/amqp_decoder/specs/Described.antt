@@ -127,3 +127,13 @@ pub data OneOfFault (members : List Member) (st : State) (e : Error) : Type 0 wh
   not_described : DescribedFault st e → OneOfFault members st e
   no_descriptor : {m : State} → ReadsCode st 0 m → m.top.shared ≡ None → DescriptorFault m e → OneOfFault members st e
   no_member : {m : State} {m' : State} → ReadsCode st 0 m → TakesPlace members m None m' → e ≡ WrongDescriptor → OneOfFault members st e
+
+-- They stand where the described value begins, or at its descriptor.
+abbrev pub open_left : (st : State) (e : Error) → OpenFault st e → ℕ
+open_left st e (not_open fault) = length st.rest
+open_left st e (nameless {m} begun own fault) = length m.rest
+
+abbrev pub one_of_left : (members : List Member) (st : State) (e : Error) → OneOfFault members st e → ℕ
+one_of_left members st e (not_described fault) = length st.rest
+one_of_left members st e (no_descriptor {m} begun own fault) = length m.rest
+one_of_left members st e (no_member {m} {m'} begun took is) = length m.rest

@@ -2,12 +2,12 @@
 use Rattle.std.proofs.Common.{◌≡◌, ◌≤◌, ℕ, Bool, false, cond, map, Option, Some, None, arith}
 use Rattle.amqp_wire.specs.declared.error.Error.{Error}
 use Rattle.amqp_wire.specs.declared.error.Error.TheVariants.{Depth, Limit}
-use Rattle.amqp_decoder.specs.State.{Source, Course, Open, State, bound_of}
+use Rattle.amqp_decoder.specs.State.{Source, Reader, reader_of, Course, Open, State, bound_of}
 
 -- Another source, which may have failed, a bound on nesting that is no lower, whether as many values may begin as there are, whether
 -- they may have as many bytes, and what else is said of how the reading goes.
 pub record Setting : Type 0 where
-  pub source : Source
+  pub source : Reader
   pub deepen : ℕ → ℕ
   pub grows : (n : ℕ) → n ≤ deepen n
   pub free : Bool
@@ -37,17 +37,18 @@ under c st =
 -- Another source alone.
 abbrev pub another : Source → Bool → Setting
 another source failed = record {
-  source = source;
+  source = reader_of source;
   deepen = λ n. n;
   grows = λ n. omega arith;
   free = false;
   lift = false;
-  course = λ f. record f { broken = failed };
+  course = λ f. record f { size = source.size; broken = failed };
 }
 
 -- The same before a decoder of another source, which may have failed.
 abbrev pub elsewhere : Source → Bool → State → State
-elsewhere source failed st = record st { source = source; failed = record st.failed { broken = failed } }
+elsewhere source failed st =
+    record st { source = reader_of source; failed = record st.failed { size = source.size; broken = failed } }
 
 -- An error by depth isn't kept by a greater bound, and one by a limit not where more values may begin or more bytes are left.
 abbrev pub IsByDepth : Error → Type 0

@@ -38,10 +38,20 @@ pub record Source : Type 0 where
 abbrev pub fresh_source : ℕ → List ℕ → Source
 fresh_source name bytes = record { name = name; size = length bytes % 2 ^ 64; fault = 0 }
 
+-- What is known of a source while it is read: what it is called, and where it was refused.
+pub record Reader : Type 0 where
+  pub name : ℕ
+  pub fault : ℕ
+
+abbrev pub reader_of : Source → Reader
+reader_of source = record { name = source.name; fault = source.fault }
+
+-- size: how many bytes the source had at first, as a number of 64 bits
 -- broken: the source has failed
 -- alone: one term is read, and what stands behind it isn't looked at
 -- free: no limit of the caller bounds what is read
 pub record Course : Type 0 where
+  pub size : ℕ
   pub broken : Bool
   pub alone : Bool
   pub free : Bool
@@ -54,11 +64,11 @@ pub record Course : Type 0 where
 -- nesting: how many containers and described values may be nested, at most 128
 -- quota: what the terms that may still begin weigh together, where a limit of the caller says it
 -- error: what was refused
--- failed: whether the source has failed, whether one term is read alone, and whether there are no limits of the caller
+-- failed: the size of the source and whether it has failed, whether one term is read alone, and whether there are no limits of the caller
 pub record State : Type 0 where
   pub rest : List ℕ
   pub ahead : ℕ
-  pub source : Source
+  pub source : Reader
   pub top : Open
   pub saved : List Open
   pub nesting : ℕ
@@ -84,14 +94,18 @@ abbrev pub started : List ℕ → ℕ → Bool → Bool → Limits → State
 started rest name broken alone limits = record {
   rest = rest;
   ahead = 0;
-  source = fresh_source name rest;
+  source = record { name = name; fault = 0 };
   top = top_level (limit_of limits.bytes);
   saved = [];
   nesting = limits.nesting;
   quota = limit_of limits.items;
   error = None;
-  failed = record { broken = broken; alone = alone; free = is_free limits.nesting limits.bytes limits.items };
+  failed = record { size = length rest % 2 ^ 64; broken = broken; alone = alone; free = is_free limits.nesting limits.bytes limits.items };
 }
+
+-- The source that a decoder reads.
+abbrev pub source_in : State → Source
+source_in st = record { name = st.source.name; size = st.failed.size; fault = st.source.fault }
 
 -- The limits under which all is read that nests at most 128 deep, without a seed for hashes.
 abbrev pub greatest : Limits
@@ -258,7 +272,7 @@ in_container place n content st =
 
 -- So many bytes of the source are before those that are left.
 abbrev pub IsPlaceOf : ℕ → State → Type 0
-IsPlaceOf place st = (place + length st.rest) % 2 ^ 64 ≡ st.source.size
+IsPlaceOf place st = (place + length st.rest) % 2 ^ 64 ≡ st.failed.size
 
 -- A decoder that has refused, by this error and at this place.
 abbrev pub refused_at : Error → ℕ → State → State

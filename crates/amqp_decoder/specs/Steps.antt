@@ -2,7 +2,7 @@
 use Rattle.std.specs.Prelude.{◌≡◌, ℕ, ◌<◌, ◌≤◌, ◌⊎◌, Bool, true, false, List, ◌++◌, length, drop, Option, Some, None, Result, Ok, Err}
 use Rattle.amqp_wire.specs.declared.error.Error.{Error}
 use Rattle.amqp_wire.specs.declared.error.Error.TheVariants.{Memory, Read, Cut, Size, Limit}
-use Rattle.amqp_decoder.specs.State.{State, refused_at, Has, bound_of, after_data, after_bytes, announced}
+use Rattle.amqp_decoder.specs.State.{Course, State, refused_at, Has, bound_of, after_data, after_bytes, announced}
 
 abbrev pub IsReadError : Error → Type 0
 IsReadError (Read k) = Unit {0}
@@ -93,14 +93,18 @@ pub record Stops (takes : Bool) (fault : Error → Type 0) (st : State) (e : Err
   pub kept : Answers st e st'
   pub why : IsExcused takes e st' ⊎ fault e
 
+-- A course but for the size, which a source that doesn't tell its bytes doesn't tell either.
+abbrev pub unsized : Course → Course
+unsized f = record f { size = 0 }
+
 -- A call kept no error, and its source hasn't begun to fail.
 abbrev pub GoesOn : State → State → Type 0
-GoesOn st st' = (st'.error ≡ st.error) × (st'.failed ≡ st.failed)
+GoesOn st st' = (st'.error ≡ st.error) × (unsized st'.failed ≡ unsized st.failed)
 
 -- A call kept the error that it answers: the source's where that began to fail and only where it has, want of memory only where the
 -- call takes some, and a limit's only where the caller has set one.
 abbrev pub Fails : Bool → State → Error → State → Type 0
-Fails takes st e st' = (st'.error ≡ Some e) × ((st'.failed ≡ st.failed) ⊎ IsReadError e) × (e ≡ Memory → takes ≡ true)
+Fails takes st e st' = (st'.error ≡ Some e) × ((unsized st'.failed ≡ unsized st.failed) ⊎ IsReadError e) × (e ≡ Memory → takes ≡ true)
     × (IsReadError e → st'.failed.broken ≡ true) × (e ≡ Limit → st'.failed.free ≡ false)
 
 -- What a call does that is asked of a decoder that has kept no error, whatever its source tells.
@@ -110,7 +114,7 @@ Goes takes st (Err e) st' = Fails takes st e st'
 
 -- A call was asked of a decoder that had kept no error, and went on.
 abbrev pub Began : State → State → Type 0
-Began st st' = (st.error ≡ None) × (st'.error ≡ None) × (st'.failed ≡ st.failed)
+Began st st' = (st.error ≡ None) × (st'.error ≡ None) × (unsized st'.failed ≡ unsized st.failed)
 
 -- A call refused: by the error that was kept before, where nothing changes, or by one that it keeps.
 abbrev pub Refused : Bool → State → Error → State → Type 0

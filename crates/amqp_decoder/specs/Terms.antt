@@ -1,5 +1,5 @@
 -- What the calls that keep the bytes of terms promise (Part 1, section 1.2).
-use Rattle.std.specs.Prelude.{◌≡◌, ◌≤◌, ◌<◌, ◌^◌, ◌-◌, ◌⊎◌, ℕ, false, cond, List, ◌++◌, length, Some, None, IsAscii}
+use Rattle.std.specs.Prelude.{◌≡◌, ◌≤◌, ◌<◌, ◌^◌, ◌-◌, ◌⊎◌, ◌+◌, ℕ, false, cond, List, ◌++◌, length, Some, None, IsAscii}
 use Rattle.std.specs.Int.{bytes_high_first}
 use Rattle.amqp_model.specs.Term.{Descriptor, Term}
 use Rattle.amqp_model.specs.Constructors.{Format, fixed, variable, compound, format}
@@ -17,7 +17,7 @@ use Rattle.amqp_decoder.specs.State.{State, depth_error, Has, after_value, weigh
 use Rattle.amqp_decoder.specs.Steps.{Takes, Lacks, SizeError}
 use Rattle.amqp_decoder.specs.Primitives.{Stands, LacksData, LacksSized, ReadsSized}
 use Rattle.amqp_decoder.specs.Containers.{is_list}
-use Rattle.amqp_decoder.specs.Arrays.{TakesConstructor, ConstructorFault}
+use Rattle.amqp_decoder.specs.Arrays.{TakesConstructor, ConstructorFault, constructor_left}
 
 -- Bytes that are P were taken, and added to those before.
 pub record Keeps (P : List ℕ → Type 0) (before : List ℕ) (st : State) (after : List ℕ) (st' : State) : Type 0 where
@@ -60,6 +60,11 @@ pub data NoTerm (nesting : ℕ) (b : List ℕ) (st : State) (e : Error) : Type 0
   wrong_size : Refuses (IsTerm nesting) b Size → FaultIn (depth_error st.nesting) nesting b Size → SizeError 0 st e → NoTerm nesting b st e
   wrong_term : Refuses (IsTerm nesting) b e → FaultIn (depth_error st.nesting) nesting b e → (e ≡ Size → ⊥) → NoTerm nesting b st e
 
+-- It stands in these bytes, or behind them.
+abbrev pub term_left : (nesting : ℕ) (b : List ℕ) (st : State) (e : Error) → NoTerm nesting b st e → ℕ
+term_left nesting b st e (wrong_size refused fault size) = fault.0 + length st.rest
+term_left nesting b st e (wrong_term refused fault other) = fault.0 + length st.rest
+
 -- Why no bytes of a term are taken.
 pub data SpellingFault (st : State) (e : Error) : Type 0 where
   no_constructor : ConstructorFault st e → SpellingFault st e
@@ -67,6 +72,12 @@ pub data SpellingFault (st : State) (e : Error) : Type 0 where
   no_term : {ds : List Descriptor} {c : ℕ} {m : State} {b : List ℕ} {m' : State} (t : TakesConstructor st ds c m) → Takes m b m'
       → IsAnnounced (format c) b
       → NoTerm (st.nesting - length st.saved) (t.own ++ b) m' e → SpellingFault st e
+
+-- It stands where the term begins, or in it.
+abbrev pub spelling_left : (st : State) (e : Error) → SpellingFault st e → ℕ
+spelling_left st e (no_constructor fault) = constructor_left st e fault
+spelling_left st e (no_data took fault) = length st.rest
+spelling_left st e (no_term {b = b} {m' = m'} took data_ announced fault) = term_left (st.nesting - length st.saved) (took.own ++ b) m' e fault
 
 -- A term stood next as these bytes, a constructor of its own among them, and was taken.
 pub record TakesTerm (st : State) (s : List ℕ) (st' : State) : Type 0 where
@@ -81,3 +92,10 @@ pub data TermFault (st : State) (e : Error) : Type 0 where
   in_array : Has st.top.items 1 → (st.top.shared ≡ None → ⊥) → e ≡ LazyInArray → TermFault st e
   misspelled : Has st.top.items 1 → st.top.shared ≡ None → SpellingFault st e → TermFault st e
   too_many : {s : List ℕ} {m : State} (h : TakesTerm (uncounted st) s m) → (Has st.quota (weight_at st h.term) → ⊥) → e ≡ Limit → TermFault st e
+
+-- It stands where the term begins, or in it.
+abbrev pub term_fault_left : (st : State) (e : Error) → TermFault st e → ℕ
+term_fault_left st e (missing none is) = length st.rest
+term_fault_left st e (in_array item shared is) = length st.rest
+term_fault_left st e (misspelled item own fault) = spelling_left st e fault
+term_fault_left st e (too_many took full is) = length st.rest

@@ -1,22 +1,21 @@
 //! Arrays, whose items share a constructor (Part 1, sections 1.2.4 and 1.6.24).
-ghost use Rattle.std.specs.Prelude.{◌≡◌, ◌<◌, ◌≤◌, ◌+◌, ◌++◌, ◌∷◌, [], ◌⊎◌, ◌↔◌, IsTrue, cond, length, map, Some, None, OnOk, IfOk, IfErr};
-ghost use Rattle.std.specs.Prelude.{vec_len, true, false};
+ghost use Rattle.std.specs.Prelude.{◌≡◌, ◌<◌, ◌≤◌, ◌+◌, ◌%◌, ◌^◌, ◌++◌, ◌∷◌, [], ◌⊎◌, ◌↔◌, IsTrue, ℕ, suc, cond, length, map, Some, None, OnOk, IfOk};
+ghost use Rattle.std.specs.Prelude.{IfErr, vec_len, true, false};
 ghost use Rattle.amqp_model.specs.Constructors.{format};
 ghost use Rattle.amqp_model.specs.Spelling.{IsKnown};
 ghost use Rattle.amqp_wire.specs.Codes.{refusal_of};
 ghost use Rattle.amqp_wire.specs.Sources.{Tells};
 ghost use Rattle.amqp_wire.specs.declared.descriptor.Descriptor.{Descriptor as DescriptorValue};
-ghost use Rattle.amqp_wire.specs.declared.error.Error.TheVariants.{Depth};
 ghost use Rattle.amqp_decoder.specs.declared.frame.Place.TheVariants.{InArray};
-ghost use Rattle.amqp_decoder.specs.State.{depth_error, Has, descriptor_of, in_container};
-ghost use Rattle.amqp_decoder.specs.Places.{StandsHere};
-ghost use Rattle.amqp_decoder.specs.Steps.{Answers, NoRoom, Stops, Goes, Tries};
+ghost use Rattle.amqp_decoder.specs.State.{IsPlaceOf, depth_error, Has, descriptor_of, in_container};
+ghost use Rattle.amqp_decoder.specs.Places.{StandsHere, StandsBefore, At, StopsAt, AnswersAt};
+ghost use Rattle.amqp_decoder.specs.Steps.{Answers, Takes, Lacks, NoRoom, Stops, Goes, Tries};
 ghost use Rattle.amqp_decoder.specs.Reading.{AnswersRead};
 ghost use Rattle.amqp_decoder.specs.Containers.{Closes, CloseFault};
-ghost use Rattle.amqp_decoder.specs.Described.{TakesDescriptor, DescriptorFault};
+ghost use Rattle.amqp_decoder.specs.Described.{TakesDescriptor};
 ghost use Rattle.amqp_decoder.specs.Rooms.{HasRoom};
-ghost use Rattle.amqp_decoder.specs.Arrays.{TakesConstructor, ConstructorFault, IsFlat, Shares, SharesFault, EntersArray, EnterArrayFault};
-ghost use Rattle.amqp_decoder.specs.Arrays.{OpensItems, OpensArray, ArrayFault};
+ghost use Rattle.amqp_decoder.specs.Arrays.{TakesConstructor, constructor_left, NoMarked, IsFlat, Shares, shares_left, EntersArray, enter_left};
+ghost use Rattle.amqp_decoder.specs.Arrays.{OpenItemsFault, OpensItems, OpensArray, array_left};
 
 use crate::Decoder;
 use crate::frame::Place;
@@ -44,12 +43,11 @@ impl<R: ByteSource> Decoder<R> {
             → IfOk result (λ _. (d : DescriptorValue) × TakesDescriptor self.old (descriptor_of d) self.new
             × (descriptors.new.items ≡ descriptors.old.items ++ (d ∷ []))) }
         ensures err { Tells R.remaining → self.old.top.shared ≡ None
-            → IfErr result (λ e. Stops true (λ e. ((e ≡ Depth) × (128 ≤ length descriptors.old.items))
-            ⊎ DescriptorFault self.old e) self.old e self.new) }
+            → IfErr result (λ e. StopsAt true (NoMarked (length descriptors.old.items) self.old) self.old e self.new) }
         ensures goes { Goes true self.old result self.new }
     {
         if descriptors.len() >= NESTING {
-            return Err(self.stop(Error::Depth));
+            return Err(self.stop_before(Error::Depth));
         }
         match descriptors.push(self.descriptor(alloc)?) {
             Ok(()) => Ok(()),
@@ -63,14 +61,24 @@ impl<R: ByteSource> Decoder<R> {
         ensures err { IfErr result (λ e. (code ≡ 0 → ⊥) × (IsKnown (format code) → ⊥) × (e ≡ refusal_of code)
             × Answers self.old e self.new) }
         ensures goes { Goes false self.old result self.new }
+        ensures place { IfErr result (λ _. StandsBefore (suc (length self.old.rest)) self.old self.new) }
     {
         match format_code::unknown(code) {
             None => Ok(()),
-            Some(error) => {
-                let place = self.place().wrapping_sub(1);
-                Err(self.stop_at(place, error))
-            }
+            Some(error) => Err(self.stop_before(error)),
         }
+    }
+
+    // The next code of a constructor, which stands here if it is refused.
+    pub(crate) fn next_code(&mut self) -> Result<u8, Error>
+        ensures ok { Tells R.remaining → IfOk result (λ b. Takes self.old (b ∷ []) self.new) }
+        ensures err { Tells R.remaining → IfErr result (λ e. Stops true (Lacks 1 self.old) self.old e self.new) }
+        ensures goes { Goes false self.old result self.new }
+        ensures place { IfErr result (λ _. IsPlaceOf self.new.source.fault self.old) }
+    {
+        let place = self.place();
+        let code = self.byte();
+        self.placed(place, code)
     }
 
     // The constructor that comes next: its descriptors, and its code.
@@ -80,14 +88,14 @@ impl<R: ByteSource> Decoder<R> {
         ensures ok { Tells R.remaining → self.old.top.shared ≡ None
             → IfOk result (λ found. TakesConstructor self.old (map descriptor_of found.0.items) found.1 self.new) }
         ensures err { Tells R.remaining → self.old.top.shared ≡ None
-            → IfErr result (λ e. Stops true (ConstructorFault self.old) self.old e self.new) }
+            → IfErr result (λ e. StopsAt true (At constructor_left self.old) self.old e self.new) }
         ensures goes { Goes true self.old result self.new }
     {
         let mut descriptors = Vec::new(alloc);
-        let mut code = self.byte()?;
+        let mut code = self.next_code()?;
         while code == format_code::DESCRIBED {
             self.keep_descriptor(&mut descriptors, alloc)?;
-            code = self.byte()?;
+            code = self.next_code()?;
         }
         self.check_known(code)?;
         Ok((descriptors, code))
@@ -98,7 +106,7 @@ impl<R: ByteSource> Decoder<R> {
         ensures ok { Tells R.remaining → self.old.top.shared ≡ None → self.old.top.place ≡ InArray
             → IfOk result (λ _. Shares count self.old self.new) }
         ensures err { Tells R.remaining → self.old.top.shared ≡ None
-            → IfErr result (λ e. Stops true (SharesFault count self.old) self.old e self.new) }
+            → IfErr result (λ e. StopsAt true (At (shares_left count) self.old) self.old e self.new) }
         ensures goes { Goes true self.old result self.new }
     {
         let start = self.place();
@@ -129,7 +137,7 @@ impl<R: ByteSource> Decoder<R> {
     // Opens an array of so many bytes whose code was taken, and returns its count and these, wherever it refuses.
     fn open_any(&mut self, wide: bool) -> Result<(u32, u32), Error>
         ensures ok { Tells R.remaining → IfOk result (λ h. OpensItems (cond wide 4 1) self.old h.0 h.1 self.new) }
-        ensures err { Tells R.remaining → IfErr result (λ e. Stops true (EnterArrayFault (cond wide 4 1) self.old) self.old e self.new) }
+        ensures err { Tells R.remaining → IfErr result (λ e. Stops true (OpenItemsFault (cond wide 4 1) self.old) self.old e self.new) }
         ensures goes { Goes true self.old result self.new }
     {
         let (count, content) = self.header(wide, false)?;
@@ -140,8 +148,9 @@ impl<R: ByteSource> Decoder<R> {
     // The same for an array that begins there.
     fn open_from(&mut self, start: u64, wide: bool) -> Result<(u32, u32), Error>
         ensures ok { Tells R.remaining → IfOk result (λ h. OpensItems (cond wide 4 1) self.old h.0 h.1 self.new) }
-        ensures err { Tells R.remaining → IfErr result (λ e. Stops true (EnterArrayFault (cond wide 4 1) self.old) self.old e self.new) }
+        ensures err { Tells R.remaining → IfErr result (λ e. Stops true (OpenItemsFault (cond wide 4 1) self.old) self.old e self.new) }
         ensures goes { Goes true self.old result self.new }
+        ensures place { IfErr result (λ _. self.new.source.fault ≡ start) }
     {
         let opened = self.open_any(wide);
         self.placed(start, opened)
@@ -150,7 +159,8 @@ impl<R: ByteSource> Decoder<R> {
     // Opens an array that begins there and whose code was taken.
     fn open_array(&mut self, start: u64, wide: bool, alloc: Global) -> Result<u32, Error>
         ensures ok { Tells R.remaining → IfOk result (λ n. EntersArray (cond wide 4 1) self.old n self.new) }
-        ensures err { Tells R.remaining → IfErr result (λ e. Stops true (EnterArrayFault (cond wide 4 1) self.old) self.old e self.new) }
+        ensures err { Tells R.remaining → (own : ℕ) → (start + own) % 2 ^ 64 ≡ self.old.failed.size
+            → IfErr result (λ e. StopsAt true (At (enter_left own (cond wide 4 1)) self.old) self.old e self.new) }
         ensures goes { Goes true self.old result self.new }
     {
         let (count, content) = self.open_from(start, wide)?;
@@ -170,7 +180,7 @@ impl<R: ByteSource> Decoder<R> {
     /// - `BadDescriptor` and `NonAscii`, as for `begin_described`.
     /// - `Depth`, if there are more than 128 descriptors, or values nest more than 128 deep.
     pub fn begin_array(&mut self, alloc: Global) -> Result<u32, Error>
-        ensures opened { Tells R.remaining → AnswersRead true OpensArray ArrayFault self.old result self.new }
+        ensures opened { Tells R.remaining → AnswersAt true OpensArray (At array_left) self.old result self.new }
         ensures room { HasRoom self.old }
         ensures tries { Tries true self.old result self.new }
     {

@@ -71,13 +71,13 @@ impl<R: ByteSource> Model for Decoder<R> {
     ghost view = { λ d. record {
       rest = d.input.rest;
       ahead = d.input.ahead;
-      source = record { name = d.input.source.name; size = d.input.source.size; fault = d.fault };
+      source = record { name = d.input.source.name; fault = d.fault };
       top = open_of d.descriptors.items (limit_of d.bytes) d.top;
       saved = stack d.descriptors.items (limit_around d.top.left (limit_of d.bytes)) d.depth d.frames;
       nesting = d.nesting;
       quota = limit_of d.items;
       error = d.error;
-      failed = record { broken = d.input.failed; alone = d.alone; free = is_free d.nesting d.bytes d.items };
+      failed = record { size = d.input.source.size; broken = d.input.failed; alone = d.alone; free = is_free d.nesting d.bytes d.items };
     } };
 
     ghost invariant = { λ d. (d.depth ≤ d.nesting + 1) × AreNested d.depth d.frames d.top.last × (d.top.last ≤ vec_len d.descriptors) × IsLevel d.top

@@ -9,15 +9,14 @@ ghost use Rattle.amqp_wire.specs.Sources.{Tells};
 ghost use Rattle.amqp_wire.specs.Codes.{refusal_of};
 ghost use Rattle.amqp_lookahead.specs.Members.{place_of as place_in};
 ghost use Rattle.amqp_decoder.specs.State.{IsPlaceOf, refused_at, after_bytes, descriptor_of};
-ghost use Rattle.amqp_decoder.specs.Places.{StandsHere};
+ghost use Rattle.amqp_decoder.specs.Places.{StandsHere, At, AnswersAt};
 ghost use Rattle.amqp_decoder.specs.Steps.{Answers, Fails, Goes, Tries};
 ghost use Rattle.amqp_decoder.specs.Reading.{ReadsCode};
 ghost use Rattle.amqp_decoder.specs.Primitives.{AnswersFault};
 ghost use Rattle.amqp_decoder.specs.Reserve.{Spares};
 ghost use Rattle.amqp_decoder.specs.Rooms.{HasRoom};
-ghost use Rattle.amqp_decoder.specs.Described.{TakesDescriptor, OpensDescribed, OpenFault, other_kind, symbol_code};
+ghost use Rattle.amqp_decoder.specs.Described.{TakesDescriptor, OpensDescribed, open_left, one_of_left, other_kind, symbol_code};
 ghost use Rattle.amqp_decoder.specs.Described.{IsDescribable, DescribedFault, MissesDescriptor, TakesPlace, MissesName, OpensOneOf};
-ghost use Rattle.amqp_decoder.specs.Described.{OneOfFault};
 
 use crate::Decoder;
 use crate::frame::Place;
@@ -29,10 +28,11 @@ use std::alloc::Global;
 const PIECE: usize = 256;
 
 impl<R: ByteSource> Decoder<R> {
-    // Takes the code of a described value.
+    // Takes the code of a described value, which may nest where it stands.
     #[inline(always)]
     fn begin_descriptor(&mut self) -> Result<(), Error>
         ensures ok { Tells R.remaining → IfOk result (λ _. ReadsCode self.old 0 self.new) }
+        ensures few { IfOk result (λ _. length self.new.saved < self.new.nesting) }
         ensures err { Tells R.remaining → IfErr result (λ e. AnswersFault false DescribedFault self.old e self.new) }
         ensures tries { Tries false self.old result self.new }
         ensures place { IfErr result (λ _. StandsHere self.old self.new) }
@@ -46,6 +46,7 @@ impl<R: ByteSource> Decoder<R> {
     #[inline(always)]
     fn any_begun(&mut self) -> Result<(), Error>
         ensures ok { Tells R.remaining → IfOk result (λ _. ReadsCode self.old 0 self.new) }
+        ensures few { IfOk result (λ _. length self.new.saved < self.new.nesting) }
         ensures err { Tells R.remaining → IfErr result (λ e. AnswersFault false DescribedFault self.old e self.new) }
         ensures tries { Tries false self.old result self.new }
     {
@@ -124,6 +125,7 @@ impl<R: ByteSource> Decoder<R> {
         ensures err { Tells R.remaining → IsDescribable self.old.top.shared
             → IfErr result (λ e. MissesDescriptor true self.old e self.new) }
         ensures goes { Goes true self.old result self.new }
+        ensures place { IfErr result (λ _. IsPlaceOf self.new.source.fault self.old) }
     {
         let Some(descriptor) = self.shared_descriptor() else {
             return self.descriptor(alloc);
@@ -142,7 +144,7 @@ impl<R: ByteSource> Decoder<R> {
     /// - `NonAscii`, if it is a symbol with a byte above 0x7f.
     /// - `Depth`, if values nest more than 128 deep.
     pub fn begin_described(&mut self, alloc: Global) -> Result<Descriptor, Error>
-        ensures opened { Tells R.remaining → AnswersRead true (λ st d st'. OpensDescribed st (descriptor_of d) st') OpenFault
+        ensures opened { Tells R.remaining → AnswersAt true (λ st d st'. OpensDescribed st (descriptor_of d) st') (At open_left)
             self.old result self.new }
         ensures nesting { self.old.nesting ≤ 128 }
         ensures tries { Tries true self.old result self.new }
@@ -223,7 +225,7 @@ impl<R: ByteSource> Decoder<R> {
     /// Begins a described value, and returns the place of the pair whose code or name is its descriptor. It doesn't allocate. It returns
     /// `WrongDescriptor` if there is no such pair, and otherwise the errors of `begin_described`.
     pub fn begin_one_of(&mut self, members: &[(u64, &str)]) -> Result<usize, Error>
-        ensures opened { Tells R.remaining → AnswersRead false (OpensOneOf members.now) (OneOfFault members.now) self.old result self.new }
+        ensures opened { Tells R.remaining → AnswersAt false (OpensOneOf members.now) (At (one_of_left members.now)) self.old result self.new }
         ensures nesting { Tells R.remaining → IfOk result (λ _. self.old.nesting ≤ 128) }
         ensures room { HasRoom self.old }
         ensures tries { Tries false self.old result self.new }

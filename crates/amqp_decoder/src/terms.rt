@@ -1,5 +1,5 @@
 //! The bytes of whole terms (Part 1, section 1.2).
-ghost use Rattle.std.specs.Prelude.{◌≡◌, ◌<◌, ◌^◌, ◌-◌, ◌∷◌, [], ℕ, cond, length, Some, Err, IfOk};
+ghost use Rattle.std.specs.Prelude.{◌≡◌, ◌<◌, ◌+◌, ◌%◌, ◌^◌, ◌-◌, ◌∷◌, [], ℕ, cond, length, Some, Err, IfOk};
 ghost use Rattle.std.specs.Prelude.{IfErr, true, false};
 ghost use Rattle.std.specs.Int.{bytes_high_first};
 ghost use Rattle.amqp_model.specs.Constructors.{format};
@@ -11,11 +11,11 @@ ghost use Rattle.amqp_lengths.specs.Pieces.{NamesAny};
 ghost use Rattle.amqp_lengths.specs.Lengths.{IsTerm};
 ghost use Rattle.amqp_lengths.specs.Announced.{IsAnnounced};
 ghost use Rattle.amqp_decoder.specs.Steps.{Takes, Lacks, Stops, Goes, Tries};
-ghost use Rattle.amqp_decoder.specs.Reading.{AnswersRead};
+ghost use Rattle.amqp_decoder.specs.Places.{Here, At, StopsAt, AnswersAt};
 ghost use Rattle.amqp_decoder.specs.Described.{DescriptorFault};
-ghost use Rattle.amqp_decoder.specs.Arrays.{ConstructorFault};
-ghost use Rattle.amqp_decoder.specs.Terms.{Keeps, IsSymbol, SymbolFault, IsConstructor, Announces, LacksAnnounced, NoTerm, SpellingFault};
-ghost use Rattle.amqp_decoder.specs.Terms.{TakesTerm, TermFault};
+ghost use Rattle.amqp_decoder.specs.Arrays.{constructor_left};
+ghost use Rattle.amqp_decoder.specs.Terms.{Keeps, IsSymbol, SymbolFault, IsConstructor, Announces, LacksAnnounced, term_left, spelling_left};
+ghost use Rattle.amqp_decoder.specs.Terms.{TakesTerm, term_fault_left};
 
 use crate::Decoder;
 use crate::containers::width;
@@ -65,10 +65,10 @@ impl<R: ByteSource> Decoder<R> {
     fn keep_code(&mut self, bytes: &mut Vec<u8>) -> Result<u8, Error>
         ensures ok { Tells R.remaining
             → IfOk result (λ code. Keeps (λ s. s ≡ code ∷ []) bytes.old.items self.old bytes.new.items self.new) }
-        ensures err { Tells R.remaining → IfErr result (λ e. Stops true (Lacks 1 self.old) self.old e self.new) }
+        ensures err { Tells R.remaining → IfErr result (λ e. StopsAt true (Here (Lacks 1) self.old) self.old e self.new) }
         ensures goes { Goes true self.old result self.new }
     {
-        let code = self.byte()?;
+        let code = self.next_code()?;
         match bytes.push(code) {
             Ok(()) => Ok(code),
             Err(_) => Err(self.stop(Error::Memory)),
@@ -120,7 +120,7 @@ impl<R: ByteSource> Decoder<R> {
     // Adds a descriptor.
     fn keep_descriptor_bytes(&mut self, bytes: &mut Vec<u8>) -> Result<(), Error>
         ensures ok { Tells R.remaining → IfOk result (λ _. Keeps NamesAny bytes.old.items self.old bytes.new.items self.new) }
-        ensures err { Tells R.remaining → IfErr result (λ e. Stops true (DescriptorFault self.old) self.old e self.new) }
+        ensures err { Tells R.remaining → IfErr result (λ e. StopsAt true (Here DescriptorFault self.old) self.old e self.new) }
         ensures goes { Goes true self.old result self.new }
     {
         let place = self.place();
@@ -149,14 +149,14 @@ impl<R: ByteSource> Decoder<R> {
     fn keep_constructor(&mut self, bytes: &mut Vec<u8>) -> Result<u8, Error>
         ensures ok { Tells R.remaining
             → IfOk result (λ code. Keeps (IsConstructor code) bytes.old.items self.old bytes.new.items self.new) }
-        ensures err { Tells R.remaining → IfErr result (λ e. Stops true (ConstructorFault self.old) self.old e self.new) }
+        ensures err { Tells R.remaining → IfErr result (λ e. StopsAt true (At constructor_left self.old) self.old e self.new) }
         ensures goes { Goes true self.old result self.new }
     {
         let mut code = self.keep_code(bytes)?;
         let mut count = 0;
         while code == format_code::DESCRIBED {
             if count == NESTING {
-                return Err(self.stop(Error::Depth));
+                return Err(self.stop_before(Error::Depth));
             }
             self.keep_descriptor_bytes(bytes)?;
             code = self.keep_code(bytes)?;
@@ -173,6 +173,7 @@ impl<R: ByteSource> Decoder<R> {
         ensures err { Tells R.remaining → IsKnown (format code)
             → IfErr result (λ e. Stops true (LacksAnnounced (format code) self.old) self.old e self.new) }
         ensures goes { Goes true self.old result self.new }
+        ensures place { IfErr result (λ _. self.new.source.fault ≡ start) }
     {
         let kept = self.keep_any_data(code, bytes);
         self.placed(start, kept)
@@ -200,8 +201,9 @@ impl<R: ByteSource> Decoder<R> {
     fn check_term(&mut self, start: u64, bytes: &[u8]) -> Result<(), Error>
         ensures ok { IfOk result (λ _. (n : ℕ) × IsFront (IsTerm (self.old.nesting - length self.old.saved)) bytes.now n
             × (self.new ≡ self.old)) }
-        ensures err { Tells R.remaining → IfErr result
-            (λ e. Stops false (NoTerm (self.old.nesting - length self.old.saved) bytes.now self.old) self.old e self.new) }
+        ensures err { Tells R.remaining → (start + (length bytes.now + length self.old.rest)) % 2 ^ 64 ≡ self.old.failed.size
+            → IfErr result (λ e. StopsAt false (At (term_left (self.old.nesting - length self.old.saved) bytes.now) self.old)
+            self.old e self.new) }
         ensures goes { Goes false self.old result self.new }
     {
         match len_of_term_located(bytes, self.nesting_left(), self.depth_error()) {
@@ -220,7 +222,7 @@ impl<R: ByteSource> Decoder<R> {
     fn term_bytes(&mut self, alloc: Global) -> Result<Vec<u8>, Error>
         ensures ok { Tells R.remaining → IfOk result (λ bytes. Takes self.old bytes.items self.new
             × IsTerm (self.old.nesting - length self.old.saved) bytes.items) }
-        ensures err { Tells R.remaining → IfErr result (λ e. Stops true (SpellingFault self.old) self.old e self.new) }
+        ensures err { Tells R.remaining → IfErr result (λ e. StopsAt true (At spelling_left self.old) self.old e self.new) }
         ensures goes { Goes true self.old result self.new }
     {
         let start = self.place();
@@ -239,7 +241,7 @@ impl<R: ByteSource> Decoder<R> {
     /// `term_len`. In an open container, a wrong size is `Size` if all bytes are present that the outermost one announces, and otherwise
     /// `Cut`.
     pub fn read_term(&mut self, alloc: Global) -> Result<Vec<u8>, Error>
-        ensures read { Tells R.remaining → AnswersRead true (λ st bytes st'. TakesTerm st bytes.items st') TermFault
+        ensures read { Tells R.remaining → AnswersAt true (λ st bytes st'. TakesTerm st bytes.items st') (At term_fault_left)
             self.old result self.new }
         ensures again { (e : Error) → self.old.error ≡ Some e → (result ≡ Err e) × (self.new ≡ self.old) }
         ensures tries { Tries true self.old result self.new }

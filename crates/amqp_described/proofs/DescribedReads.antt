@@ -11,13 +11,13 @@ use Rattle.amqp_encoder.specs.Values.{descriptor_of as written_descriptor}
 use Rattle.amqp_lookahead.specs.Members.{descriptor_of}
 use Rattle.amqp_decoder.specs.declared.frame.Place.TheVariants.{InDescribed}
 use Rattle.amqp_decoder.specs.State.{State, after_value, weight_at}
-use Rattle.amqp_decoder.specs.Reading.{RefusesRead}
 use Rattle.amqp_decoder.specs.Primitives.{standing, Stands, ReadsValue}
 use Rattle.amqp_decoder.specs.Containers.{ClosesDescribed, EndFault, other_place, nothing_open, items_left}
-use Rattle.amqp_decoder.specs.Described.{OpensDescribed, OpenFault}
+use Rattle.amqp_decoder.specs.Described.{OpensDescribed, open_left}
 use Rattle.amqp_decoder.proofs.Descriptions.{described_with_parts, term_described}
 use Rattle.amqp_decoder.proofs.NothingInside.{opens_described_same}
 use Rattle.amqp_decoder.proofs.OneReading.{stands_same, value_same}
+use Rattle.amqp_decoder.specs.Places.{Located, Here, At, RefusesAt}
 use Rattle.amqp_codec.specs.TermType.{TermType}
 use Rattle.amqp_codec.specs.laws.Refusal.{described_going, described_sound, refused_first, refused_later}
 use Rattle.amqp_codec.specs.DescribedPairMeaning.{any_descriptor}
@@ -40,7 +40,7 @@ module _ {T : Type 0} (u : TermType T) where
   abbrev Reads : State → Described T → State → Type 0
   Reads = ReadsValue (described_of u).means
 
-  abbrev Fault : State → Error → Type 0
+  abbrev Fault : State → Located → Type 0
   Fault = DescribedValueFault u.faults.fault
 
   -- what stands there is opened, what it describes is read, and it is closed
@@ -98,29 +98,29 @@ module _ {T : Type 0} (u : TermType T) where
       }
 
   pub open_refused : (st : State) (e : Error) (new : State) → st.nesting ≤ 128
-      → RefusesRead true (λ st d b. OpensDescribed st (descriptor_of d) b) OpenFault st e new → RefusesRead true Reads Fault st e new
+      → RefusesAt true (λ st d b. OpensDescribed st (descriptor_of d) b) (At open_left) st e new → RefusesAt true Reads Fault st e new
   open_refused st e new bound =
-      refused_first (λ st d b. OpensDescribed st (descriptor_of d) b) OpenFault Reads Fault st e new (λ t. t) unopened
+      refused_first (λ st d b. OpensDescribed st (descriptor_of d) b) (At open_left) Reads Fault st e new (λ t. t) (λ _. unopened)
       (λ none v b h. (let k = inside st v b bound h in none v.descriptor k.inner k.opens))
 
   module _ (st : State) (d : Descriptor) (inner : State) (bound : st.nesting ≤ 128) (o : OpensDescribed st d inner) where
-    pub value_refused : {takes : Bool} (e : Error) (new : State) → RefusesRead takes (ReadsValue u.means) u.faults.fault inner e new
-        → RefusesRead true Reads Fault st e new
+    pub value_refused : {takes : Bool} (e : Error) (new : State) → RefusesAt takes (ReadsValue u.means) u.faults.fault inner e new
+        → RefusesAt true Reads Fault st e new
     value_refused e new =
         refused_later (ReadsValue u.means) u.faults.fault Reads Fault st inner e new (λ _. refl) (described_sound o) o.begun.going
-        (described_going o) (in_value o)
+        (described_going o) (λ _. in_value o)
         (λ none v b h.
         let k = inside st v b bound h in
         let s = opens_described_same st (descriptor_of v.descriptor) d k.inner inner k.opens o in
         none v.value k.last (subst (λ (x : State). ReadsValue u.means x v.value k.last) s.1 k.read))
 
     pub end_refused : (w : T) (last : State) (e : Error) (new : State) → ReadsValue u.means inner w last
-        → RefusesRead false (λ st (_ : Unit {0}) b. ClosesDescribed InDescribed st b) (EndFault InDescribed) last e new
-        → RefusesRead true Reads Fault st e new
+        → RefusesAt false (λ st (_ : Unit {0}) b. ClosesDescribed InDescribed st b) (Here (EndFault InDescribed)) last e new
+        → RefusesAt true Reads Fault st e new
     end_refused w last e new r =
-        refused_later (λ st (_ : Unit {0}) b. ClosesDescribed InDescribed st b) (EndFault InDescribed) Reads Fault st last e new (λ _. refl)
+        refused_later (λ st (_ : Unit {0}) b. ClosesDescribed InDescribed st b) (Here (EndFault InDescribed)) Reads Fault st last e new (λ _. refl)
         (ap (λ (x : State). x.failed) r.moved ∙ described_sound o) o.begun.going
-        (ap (λ (x : State). x.error) r.moved ∙ described_going o) (λ f. absurd (at_end st inner last d (length r.bytes) (weight_at inner r.term) e o r.moved f))
+        (ap (λ (x : State). x.error) r.moved ∙ described_going o) (λ x f. absurd (at_end st inner last d (length r.bytes) (weight_at inner r.term) x.error o r.moved f.0))
         (λ none v b h.
         let k = inside st v b bound h in
         let s = opens_described_same st (descriptor_of v.descriptor) d k.inner inner k.opens o in

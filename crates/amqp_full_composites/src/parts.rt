@@ -6,14 +6,17 @@ use amqp_primitives::Binary;
 use amqp_values::Value;
 use std::alloc::Global;
 
+/// Returns a string with a copy of the text.
 pub fn text_of(text: &str, alloc: Global) -> Result<String, CodecError> {
     Ok(String::from_str(alloc, text)?)
 }
 
+/// Returns a binary with a copy of the bytes.
 pub fn binary_of(bytes: &[u8], alloc: Global) -> Result<Binary, CodecError> {
     Ok(Binary::from(Vec::from_slice(alloc, bytes)?))
 }
 
+/// Returns a symbol with a copy of the text, which has to be ASCII.
 pub fn symbol_of(text: &str, alloc: Global) -> Result<Symbol, CodecError> {
     Ok(Symbol::from_str_in(text, alloc)?)
 }

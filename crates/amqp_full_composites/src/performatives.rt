@@ -60,6 +60,7 @@ fn full_extensions(
     })
 }
 
+/// Returns an open with a value in every field (Part 2, section 2.7.1).
 pub fn full_open(alloc: Global) -> Result<Open, CodecError> {
     let names = full_names(alloc)?;
     let locales = full_locales(alloc)?;
@@ -78,6 +79,7 @@ pub fn full_open(alloc: Global) -> Result<Open, CodecError> {
     })
 }
 
+/// Returns a begin with a value in every field (Part 2, section 2.7.2).
 pub fn full_begin(alloc: Global) -> Result<Begin, CodecError> {
     Ok(Begin {
         remote_channel: Some(3),
@@ -124,6 +126,7 @@ fn full_ends(alloc: Global) -> Result<Ends, CodecError> {
     })
 }
 
+/// Returns an attach with a value in every field (Part 2, section 2.7.3).
 pub fn full_attach(alloc: Global) -> Result<Attach, CodecError> {
     let name = text_of("link", alloc)?;
     let ends = full_ends(alloc)?;
@@ -146,6 +149,7 @@ pub fn full_attach(alloc: Global) -> Result<Attach, CodecError> {
     })
 }
 
+/// Returns a flow with a value in every field (Part 2, section 2.7.4).
 pub fn full_flow(alloc: Global) -> Result<Flow, CodecError> {
     Ok(Flow {
         next_incoming_id: Some(1),
@@ -162,6 +166,7 @@ pub fn full_flow(alloc: Global) -> Result<Flow, CodecError> {
     })
 }
 
+/// Returns a transfer with a value in every field (Part 2, section 2.7.5).
 pub fn full_transfer(alloc: Global) -> Result<Transfer, CodecError> {
     Ok(Transfer {
         handle: Handle(1),
@@ -178,6 +183,7 @@ pub fn full_transfer(alloc: Global) -> Result<Transfer, CodecError> {
     })
 }
 
+/// Returns a disposition with a value in every field (Part 2, section 2.7.6).
 pub fn full_disposition() -> Disposition {
     Disposition {
         role: Role::Receiver,
@@ -189,6 +195,7 @@ pub fn full_disposition() -> Disposition {
     }
 }
 
+/// Returns a detach with a value in every field (Part 2, section 2.7.7).
 pub fn full_detach(alloc: Global) -> Result<Detach, CodecError> {
     Ok(Detach {
         handle: Handle(3),
@@ -197,12 +204,14 @@ pub fn full_detach(alloc: Global) -> Result<Detach, CodecError> {
     })
 }
 
+/// Returns an end with a value in every field (Part 2, section 2.7.8).
 pub fn full_end(alloc: Global) -> Result<End, CodecError> {
     Ok(End {
         error: Some(error_of("x", "y", alloc)?),
     })
 }
 
+/// Returns a close with a value in every field (Part 2, section 2.7.9).
 pub fn full_close(alloc: Global) -> Result<Close, CodecError> {
     Ok(Close {
         error: Some(error_of("x", "y", alloc)?),

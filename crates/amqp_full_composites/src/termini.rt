@@ -36,6 +36,7 @@ fn full_source_symbols(alloc: Global) -> Result<SourceSymbols, CodecError> {
     })
 }
 
+/// Returns a source with a value in every field (Part 3, section 3.5.3).
 pub fn full_source(alloc: Global) -> Result<Source, CodecError> {
     let address = text_of("a", alloc)?;
     let maps = full_source_maps(alloc)?;
@@ -55,6 +56,7 @@ pub fn full_source(alloc: Global) -> Result<Source, CodecError> {
     })
 }
 
+/// Returns a target with a value in every field (Part 3, section 3.5.4).
 pub fn full_target(alloc: Global) -> Result<Target, CodecError> {
     Ok(Target {
         address: Some(text_of("a", alloc)?),
@@ -67,6 +69,7 @@ pub fn full_target(alloc: Global) -> Result<Target, CodecError> {
     })
 }
 
+/// Returns a coordinator with a value in every field (Part 4, section 4.5.1).
 pub fn full_coordinator(alloc: Global) -> Result<Coordinator, CodecError> {
     let mut capabilities = Array::from(Vec::new(alloc));
     capabilities.push(TxnCapability::LocalTransactions)?;

@@ -3,9 +3,11 @@ use Rattle.std.proofs.Common.{ℕ, zero, suc, true, false, Result, Ok, Err, refl
 use Rattle.amqp_model.specs.Term.{leaf}
 use Rattle.amqp_wire.specs.declared.error.Error.{Error}
 use Rattle.amqp_decoder.specs.State.{State}
-use Rattle.amqp_decoder.specs.Reading.{BeginFault, PeeksCode, AnswersRead, RefusesRead}
+use Rattle.amqp_decoder.specs.Reading.{BeginFault, PeeksCode, RefusesRead}
 use Rattle.amqp_decoder.specs.Primitives.{standing, ReadsValue}
 use Rattle.amqp_decoder.proofs.Peeks.{value-peeked}
+use Rattle.amqp_decoder.specs.Places.{Here, RefusesAt, AnswersAt, StandsHere}
+use Rattle.amqp_decoder.proofs.Places.{refused_here}
 use Rattle.amqp_codec.specs.TreeType.{tree_term}
 use Rattle.amqp_codec.specs.laws.Refusal.{no_memory, refused_first, refused_later}
 use Rattle.amqp_codec.specs.laws.Peek.{peeked_going, peeked_failed, value_peeked}
@@ -53,11 +55,11 @@ module _ {V : Type 0} (s : KindSumOf V) where
   )
   from_sum (member m make ms) made (suc i) st v b at h = from_sum ms made.1 i st v b at h
 
-  pub peek_refused : (st : State) (e : Error) (new : State) → RefusesRead false PeeksCode BeginFault st e new
-      → RefusesRead true Reads (kind_sum_type s).faults.fault st e new
-  peek_refused st e new =
-      refused_first PeeksCode BeginFault Reads (kind_sum_type s).faults.fault st e new no_memory no_value
-      (value_peeked (kind_sum_type s).means st)
+  pub peek_refused : (st : State) (e : Error) (new : State) → RefusesRead false PeeksCode BeginFault st e new → StandsHere st new
+      → RefusesAt true Reads (kind_sum_type s).faults.fault st e new
+  peek_refused st e new r here =
+      refused_first PeeksCode (Here BeginFault) Reads (kind_sum_type s).faults.fault st e new no_memory (λ _. no_value)
+      (value_peeked (kind_sum_type s).means st) (refused_here r here)
 
   module _ (st : State) (c : ℕ) (mid : State) (p : PeeksCode st c mid) where
     abbrev place : ℕ
@@ -74,16 +76,16 @@ module _ {V : Type 0} (s : KindSumOf V) where
         from_sum s.members s.made place mid v new (subst (λ k. IsAt s.members (s.place k) v) (sym same) (s.held v)) j
 
     refused : (e : Error) (new : State)
-        → RefusesRead (takes_at s.members place) (reads_at s.members place) (faults_at s.members place).fault mid e new
-        → RefusesRead true Reads (kind_sum_type s).faults.fault st e new
+        → RefusesAt (takes_at s.members place) (reads_at s.members place) (faults_at s.members place).fault mid e new
+        → RefusesAt true Reads (kind_sum_type s).faults.fault st e new
     refused e new h =
         let going = peeked_going st c mid p in
         refused_later (reads_at s.members place) (faults_at s.members place).fault Reads (kind_sum_type s).faults.fault st mid e new
-        (λ _. refl) (peeked_failed st c mid p) going.0 going.1 (of_kind p) (λ none v b j. none v b (there v b j)) h
+        (λ _. refl) (peeked_failed st c mid p) going.0 going.1 (λ _. of_kind p) (λ none v b j. none v b (there v b j)) h
 
     -- what the member's reader answers
     pub answers : (r : Result V Error) (new : State)
-        → AnswersRead (takes_at s.members place) (reads_at s.members place) (faults_at s.members place).fault mid r new
-        → AnswersRead true Reads (kind_sum_type s).faults.fault st r new
+        → AnswersAt (takes_at s.members place) (reads_at s.members place) (faults_at s.members place).fault mid r new
+        → AnswersAt true Reads (kind_sum_type s).faults.fault st r new
     answers (Ok v) new h = behind v new h
     answers (Err e) new h = refused e new h

@@ -1,6 +1,6 @@
 //! How a value is read as one of the types that it may have.
 ghost use Rattle.amqp_wire.specs.Sources.{Tells};
-ghost use Rattle.amqp_decoder.specs.Reading.{AnswersRead};
+ghost use Rattle.amqp_decoder.specs.Places.{AnswersAt};
 ghost use Rattle.amqp_decoder.specs.Steps.{Tries};
 ghost use Rattle.amqp_kinds.specs.KindReading.{ReadsMember};
 
@@ -15,7 +15,7 @@ pub fn read_as<T: DeserializeTerm, V: From<T> + Drop, R: ByteSource>(
     alloc: Global,
 ) -> Result<V, Error>
     ensures read { Tells R.remaining →
-        AnswersRead T.term.takes_memory (ReadsMember T.term.means V.from_gives) T.term.faults.fault decoder.old result decoder.new }
+        AnswersAt T.term.takes_memory (ReadsMember T.term.means V.from_gives) T.term.faults.fault decoder.old result decoder.new }
     ensures tries { Tries T.term.takes_memory decoder.old result decoder.new }
 {
     let value = T::read_value(decoder, alloc)?;

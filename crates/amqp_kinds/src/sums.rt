@@ -2,7 +2,7 @@
 //! `specs/KindMembers.antt`. What is read at a place of it is made by that member's constructor.
 ghost use Rattle.std.specs.Prelude.{true};
 ghost use Rattle.amqp_wire.specs.Sources.{Tells};
-ghost use Rattle.amqp_decoder.specs.Reading.{AnswersRead};
+ghost use Rattle.amqp_decoder.specs.Places.{AnswersAt};
 ghost use Rattle.amqp_decoder.specs.Primitives.{ReadsValue};
 ghost use Rattle.amqp_decoder.specs.Steps.{Tries};
 ghost use Rattle.amqp_kinds.specs.KindSumType.{kind_sum_type};
@@ -24,7 +24,7 @@ pub trait KindSum: Sized + Drop {
         decoder: &mut Decoder<R>,
         alloc: Global,
     ) -> Result<Self, Error>
-        ensures read { Tells R.remaining → AnswersRead (takes_at sum.members (sum.place kind)) (reads_at sum.members (sum.place kind))
+        ensures read { Tells R.remaining → AnswersAt (takes_at sum.members (sum.place kind)) (reads_at sum.members (sum.place kind))
             (faults_at sum.members (sum.place kind)).fault decoder.old result decoder.new }
         ensures tries { Tries (takes_at sum.members (sum.place kind)) decoder.old result decoder.new };
 }
@@ -34,7 +34,7 @@ pub fn read_kind_sum<S: KindSum, R: ByteSource>(
     decoder: &mut Decoder<R>,
     alloc: Global,
 ) -> Result<S, Error>
-    ensures read { Tells R.remaining → AnswersRead true (ReadsValue (kind_sum_type S.sum).means) (kind_sum_type S.sum).faults.fault
+    ensures read { Tells R.remaining → AnswersAt true (ReadsValue (kind_sum_type S.sum).means) (kind_sum_type S.sum).faults.fault
         decoder.old result decoder.new }
     ensures tries { Tries true decoder.old result decoder.new }
 {

@@ -3,9 +3,9 @@ use Rattle.std.proofs.Common.{◌≡◌, ℕ, true, Vec, Global, List, Option, S
 use Rattle.amqp_model.specs.Term.{Term, Descriptor}
 use Rattle.amqp_wire.specs.declared.error.Error.{Error}
 use Rattle.amqp_decoder.specs.State.{State}
-use Rattle.amqp_decoder.specs.Reading.{RefusesRead}
 use Rattle.amqp_decoder.specs.Primitives.{standing, SpellsAs, ReadsValue}
-use Rattle.amqp_decoder.specs.Terms.{TakesTerm, TermFault}
+use Rattle.amqp_decoder.specs.Terms.{TakesTerm, term_fault_left}
+use Rattle.amqp_decoder.specs.Places.{At, RefusesAt}
 use Rattle.amqp_codec.specs.laws.Refusal.{refused_first}
 use Rattle.amqp_model.specs.Measures.{nodes}
 use Rattle.amqp_lengths.specs.Measured.{IsMeasured}
@@ -42,8 +42,8 @@ value_taken st v b h =
     subst (λ s. TakesTerm st s b) own.1
     (record { term = h.term; stands = h.stands; unshared = own.0; moved = h.moved })
 
-pub term_refused : (st : State) (e : Error) (new : State) → RefusesRead true Taken TermFault st e new
-    → RefusesRead true (ReadsValue lazy_type.means) TermFault st e new
+pub term_refused : (st : State) (e : Error) (new : State) → RefusesAt true Taken (At term_fault_left) st e new
+    → RefusesAt true (ReadsValue lazy_type.means) (At term_fault_left) st e new
 term_refused st e new =
-    refused_first Taken TermFault (ReadsValue lazy_type.means) TermFault st e new (λ h. h) (λ f. f)
+    refused_first Taken (At term_fault_left) (ReadsValue lazy_type.means) (At term_fault_left) st e new (λ h. h) (λ _ f. f)
     (λ none v b h. none v.bytes b (value_taken st v b h))

@@ -15,10 +15,11 @@ use Rattle.amqp_model.specs.laws.Item.{clash}
 use Rattle.amqp_model.specs.FieldType.{unchanged}
 use Rattle.amqp_model.proofs.Unique.{one_term}
 use Rattle.amqp_lookahead.proofs.KindsOfCodes.{kind_data, one_code}
-use Rattle.amqp_decoder.specs.Terms.{TermFault}
+use Rattle.amqp_decoder.specs.Terms.{term_fault_left}
 use Rattle.amqp_decoder.proofs.NotOutside.{term_not_outside}
 use Rattle.amqp_decoder.proofs.Misspelled.{term_misspelled}
-use Rattle.amqp_decoder.specs.laws.OtherSource.{term_fault}
+use Rattle.amqp_decoder.specs.laws.OtherSource.{term_placed}
+use Rattle.amqp_decoder.specs.Places.{At, Located}
 use Rattle.amqp_codec.specs.Faults.{Faults}
 use Rattle.amqp_codec.specs.laws.Null.{null_primitive}
 use Rattle.amqp_codec.specs.laws.OnlySize.{size_alone}
@@ -26,6 +27,12 @@ use Rattle.amqp_codec.specs.TermType.{TermType, IsLeaf, StandsCanonically, view_
 use Rattle.amqp_codec.specs.Agreement.{Agreement, via_writing, via_agreement}
 use Rattle.amqp_codec.specs.Wrappers.{via}
 use Rattle.amqp_codec.specs.Written.{Writing}
+use Rattle.amqp_codec.specs.laws.Within.{constructor_within, takes_shrinks}
+use Rattle.std.proofs.Common.{◌≤◌, ◌+◌, ◌-◌, length-append}
+use Rattle.amqp_decoder.specs.State.{State}
+use Rattle.amqp_decoder.specs.Terms.{NoTerm, wrong_size, wrong_term, term_left, SpellingFault, no_constructor, no_data, no_term, spelling_left, missing, in_array, misspelled, too_many}
+use Rattle.amqp_lengths.proofs.Places.{term_within as fault_within}
+use Rattle.amqp_wire.specs.declared.error.Error.{Error}
 
 -- Bytes that spell a term, and how many values are in it: a described value is one with its descriptor.
 pub record Counted : Type 0 where
@@ -60,13 +67,37 @@ MeansBytes (part ds c b) t v = ⊥
 abbrev pub bytes_canon : Counted → Term
 bytes_canon v = kept v.bytes
 
+no_term_within : (nesting : ℕ) (b : List ℕ) (st : State) (e : Error) (f : NoTerm nesting b st e)
+    → term_left nesting b st e f ≤ length b + length st.rest
+no_term_within nesting b st e (wrong_size refused fault size) = omega (arith, fault_within nesting b _ fault.0 fault.1)
+no_term_within nesting b st e (wrong_term refused fault other) = omega (arith, fault_within nesting b e fault.0 fault.1)
+
+spelling_within : (st : State) (e : Error) (f : SpellingFault st e) → spelling_left st e f ≤ length st.rest
+spelling_within st e (no_constructor f) = constructor_within st e f
+spelling_within st e (no_data took f) = omega arith
+spelling_within st e (no_term {m = m} {b = b} {m' = m'} took data_ announced f) =
+    omega (
+      arith,
+      no_term_within (st.nesting - length st.saved) (took.own ++ b) m' e f,
+      length-append took.own b,
+      takes_shrinks m b m' data_,
+      takes_shrinks st took.own m took.took,
+    )
+
+pub lazy_within : (st : State) (e : Located) → At term_fault_left st e → e.left ≤ length st.rest
+lazy_within st e (missing none is, place) = omega (arith, place)
+lazy_within st e (in_array item shared is, place) = omega (arith, place)
+lazy_within st e (misspelled item own f, place) = omega (arith, place, spelling_within st e.error f)
+lazy_within st e (too_many took full is, place) = omega (arith, place)
+
 -- Why no bytes of a term are read.
 abbrev pub lazy_faults : Faults
 lazy_faults = record {
-  fault = TermFault;
-  not_outside = λ e out. term_not_outside out;
-  fault_elsewhere = λ c st e. term_fault c;
-  misspelled = λ st e _ i. term_misspelled st e i;
+  fault = At term_fault_left;
+  not_outside = λ e out st h. term_not_outside out st h.0;
+  fault_elsewhere = λ c st e. term_placed c;
+  misspelled = λ st e _ i h. term_misspelled st e.error i h.0;
+  within = lazy_within;
 }
 
 no_bytes : (z : List ℕ) → length z ≡ 0 → z ≡ []

@@ -1,13 +1,12 @@
 //! What a line asks for: the canonical text of a value of a type.
-ghost use Rattle.std.specs.Prelude.{◌≡◌, ◌≤◌, ◌⊎◌, ℕ, List, length, IfOk, IfErr, OnErr, MatchOption, position, true};
+ghost use Rattle.std.specs.Prelude.{◌≡◌, ◌≤◌, ◌⊎◌, ℕ, List, length, IfOk, IfErr, MatchOption, position, true};
 ghost use Rattle.amqp_wire.specs.declared.error.Error.TheVariants.{Memory};
-ghost use Rattle.amqp_read_write.specs.Room.{IsPlaced};
 ghost use Rattle.amqp_lines.specs.Answers.{type_name, StandsFor, Asks, IsText, HasNoText};
 ghost use Rattle.amqp_lines.specs.Rows.{in_order, has_name, number_in};
 ghost use Rattle.amqp_lines.specs.contracts.request.TypeName.{the_type};
 ghost use Rattle.amqp_lines.specs.declared.request.TypeName.{TypeName};
 
-use crate::text::{text_into, text_within};
+use crate::text::text_within;
 use crate::types;
 use crate::types::*;
 use amqp_codec::Error;
@@ -152,24 +151,6 @@ impl TypeName {
         ensures refused { IfErr result (λ e. (e ≡ Memory) ⊎ HasNoText limits.now self input.now e) }
     {
         types!(self, text_within(input, limits, alloc))
-    }
-
-    /// Writes the canonical text of the type's value at the start of the input to the start of the room, within the limits. It returns the
-    /// text's length in bytes, and the number of bytes that the value takes. If there is no room for the text, or at an error, the room
-    /// stays as it is.
-    pub fn canonical_into(
-        self,
-        input: &[u8],
-        room: &mut [u8],
-        limits: &Limits,
-        alloc: Global,
-    ) -> Result<(usize, usize), Error>
-        ensures text { IfOk result (λ r. (text : List ℕ) × IsText limits.now self input.now text r.1
-            × IsPlaced text room.old room.new r.0) }
-        ensures refused { IfErr result (λ e. (e ≡ Memory) ⊎ HasNoText limits.now self input.now e) }
-        ensures kept { OnErr result (room.new ≡ room.old) }
-    {
-        types!(self, text_into(input, room, limits, alloc))
     }
 }
 

@@ -6,7 +6,7 @@ ghost use Rattle.indexmap.specs.Entry.{entry_map_ref, map_with_value};
 ghost use Rattle.indexmap.specs.declared.map.entry.Entry.TheVariants.{Vacant};
 ghost use Rattle.amqp_wire.specs.declared.error.Error.TheVariants.{Memory, DuplicateKey};
 ghost use Rattle.amqp_wire.specs.Sources.{Tells};
-ghost use Rattle.amqp_decoder.specs.Reading.{AnswersRead};
+ghost use Rattle.amqp_decoder.specs.Places.{AnswersAt};
 ghost use Rattle.amqp_decoder.specs.Steps.{Passes};
 ghost use Rattle.amqp_codec.specs.MapReading.{ReadsPairsRow, PairsFault};
 ghost use Rattle.amqp_codec.specs.laws.MapReading.{map_of, map_faults};
@@ -72,7 +72,7 @@ fn read_row<K: MapKey, V: DeserializeTerm, R: ByteSource>(
     alloc: Global,
 ) -> Result<OrderedMap<K, V>, Error>
     requires { count ≤ FEW }
-    ensures read { Tells R.remaining → AnswersRead true (λ st pairs b. ReadsPairsRow K.term V.term count st pairs b)
+    ensures read { Tells R.remaining → AnswersAt true (λ st pairs b. ReadsPairsRow K.term V.term count st pairs b)
         (PairsFault K.term V.term count) decoder.old result decoder.new }
     ensures tries { Passes true decoder.old result decoder.new }
 {
@@ -104,7 +104,7 @@ fn read_table<K: MapKey, V: DeserializeTerm, R: ByteSource>(
     alloc: Global,
 ) -> Result<OrderedMap<K, V>, Error>
     requires { FEW < count }
-    ensures read { Tells R.remaining → AnswersRead true (λ st pairs b. ReadsPairsRow K.term V.term count st pairs b)
+    ensures read { Tells R.remaining → AnswersAt true (λ st pairs b. ReadsPairsRow K.term V.term count st pairs b)
         (PairsFault K.term V.term count) decoder.old result decoder.new }
     ensures tries { Passes true decoder.old result decoder.new }
 {
@@ -140,7 +140,7 @@ fn read_pairs<K: MapKey, V: DeserializeTerm, R: ByteSource>(
     decoder: &mut Decoder<R>,
     alloc: Global,
 ) -> Result<OrderedMap<K, V>, Error>
-    ensures read { Tells R.remaining → AnswersRead true (λ st pairs b. ReadsPairsRow K.term V.term count st pairs b)
+    ensures read { Tells R.remaining → AnswersAt true (λ st pairs b. ReadsPairsRow K.term V.term count st pairs b)
         (PairsFault K.term V.term count) decoder.old result decoder.new }
     ensures tries { Passes true decoder.old result decoder.new }
 {

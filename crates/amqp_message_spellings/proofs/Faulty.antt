@@ -1,7 +1,7 @@
 -- The faults of batches, bodies and messages are those of their bytes.
-use Rattle.std.proofs.Common.{◌≡◌, ℕ, List, [], ◌++◌, sym, ap, ◌∙◌, subst}
-use Rattle.amqp_wire.specs.declared.error.Error.{Error}
+use Rattle.std.proofs.Common.{◌≡◌, ℕ, [], ◌++◌, sym, ap, ◌∙◌, subst}
 use Rattle.amqp_decoder.specs.State.{State}
+use Rattle.amqp_decoder.specs.Places.{Located}
 use Rattle.amqp_codec.specs.TermType.{TermType}
 use Rattle.amqp_codec.specs.TermReading.{reading_of}
 use Rattle.amqp_codec.specs.Reading.{Reading, start}
@@ -30,18 +30,18 @@ use Rattle.amqp_message_spellings.proofs.NoTerms.{faults_named, also_free, no_se
 
 -- At the top level, without limits.
 pub record IsNamedAs {T : Type 0} (r : Reading T) (fault : Faults) : Type 0 where
-  pub named : (st : State) (e : Error) → IsUnlimited st → r.fault st e → fault st.rest e
+  pub named : (st : State) (e : Located) → IsUnlimited st → r.fault st e → fault st.rest e.error
 
 -- Of a whole input.
 pub of_input : {T : Type 0} {r : Reading T} {fault : Faults} → IsNamedAs r fault → IsRefusedFor r fault
-of_input l input e h = l.named (start input) e (start_unlimited input) h.fault
+of_input l input e h = l.named (start input) (record { error = e; left = h.left }) (start_unlimited input) h.fault
 
 pub term_named : {T : Type 0} (u : TermType T) → IsNamedAs (reading_of u) IsNoTerm
 term_named u = record { named = faults_named u.faults }
 
 module _ {T : Type 0} (c : ℕ) (u : TermType T) where
-  run_named : (st : State) (e : Error) → IsUnlimited st → WalkFault (run_walk c (reading_of u)) st e → IsRunFault c u st.rest e
-  run_named st e free (not_top n) = (let t = fresh_top st free.0 in absurd (n.0 t.1 t.2 t.3))
+  run_named : (st : State) (e : Located) → IsUnlimited st → WalkFault (run_walk c (reading_of u)) st e → IsRunFault c u st.rest e.error
+  run_named st e free (not_top n) = (let t = fresh_top st free.0 in absurd (n.0.0 t.1 t.2 t.3))
   run_named st e free (in_step n part last mid steps a x) =
       let k = took_some c (term_is_read u) n st [] part last free steps in
       let same : mid.rest ≡ last.rest = alike_rest last mid a in
@@ -54,7 +54,7 @@ module _ {T : Type 0} (c : ℕ) (u : TermType T) where
         next = x.0;
         has = (term_named u).named mid e (also_free last mid k.free a) x.1;
       }
-  run_named st e free (not_made n part last steps done none) = absurd none
+  run_named st e free (not_made n part last steps done none left) = absurd none
 
   pub batch_named : IsNamedAs (batch_reading c (reading_of u)) (IsRunFault c u)
   batch_named = record { named = run_named }
@@ -63,15 +63,15 @@ pub section_named : {V : Type 0} (c : ℕ) {r : Reading V} {fault : Faults} → 
     → IsNamedAs (run_reading c r) (IsSectionFault c fault)
 section_named c {r} {fault} l = record { named = by_fault }
   where
-    by_fault : (st : State) (e : Error) → IsUnlimited st → RunFault c r st e → IsSectionFault c fault st.rest e
-    by_fault st e free (groups.not_top n) = (let t = fresh_top st free.0 in absurd (n.0 t.1 t.2 t.3))
+    by_fault : (st : State) (e : Located) → IsUnlimited st → RunFault c r st e → IsSectionFault c fault st.rest e.error
+    by_fault st e free (groups.not_top n) = (let t = fresh_top st free.0 in absurd (n.0.0 t.1 t.2 t.3))
     by_fault st e free (in_run a f) = begun a (l.named st e free f)
-    by_fault st e free (other_section n i) = other n i
+    by_fault st e free (other_section n i left) = other n i
 
 pub seen_named : {V : Type 0} {r : Reading V} {fault : Faults} → IsNamedAs r fault → IsNamedAs (seen_reading r) fault
 seen_named {fault = fault} l = record {
   named = λ st e free h.
-      subst (λ z. fault z e) (alike_rest st h.seen h.alike) (l.named h.seen e (also_free st h.seen free h.alike) h.fault);
+      subst (λ z. fault z e.error) (alike_rest st h.seen h.alike) (l.named h.seen e (also_free st h.seen free h.alike) h.fault);
 }
 
 pub there_named : {V : Type 0} {r : Reading V} {fault : Faults} → IsNamedAs r fault → IsNamedAs (some_reading r) fault
@@ -84,12 +84,12 @@ module _ {T : Type 0} (uv : TermType (AmqpValue T)) (ud : TermType DataSection) 
   abbrev rs : Reading (TransparentVec (AmqpSequence T))
   rs = batch_reading 0x76 (reading_of us)
 
-  body_named : (st : State) (e : Error) → IsUnlimited st → BodyFault (reading_of uv) rd rs st e → IsBodyFault ud us st.rest e
-  body_named st e free (bodies.not_top n) = (let t = fresh_top st free.0 in absurd (n.0 t.1 t.2 t.3))
+  body_named : (st : State) (e : Located) → IsUnlimited st → BodyFault (reading_of uv) rd rs st e → IsBodyFault ud us st.rest e.error
+  body_named st e free (bodies.not_top n) = (let t = fresh_top st free.0 in absurd (n.0.0 t.1 t.2 t.3))
   body_named st e free (value_there a f) = in_value a ((term_named uv).named st e free f)
   body_named st e free (data_there a f) = in_data a ((batch_named 0x75 ud).named st e free f)
   body_named st e free (sequence_there a f) = in_sequence a ((batch_named 0x76 us).named st e free f)
-  body_named st e free (another_there a f g h i) = no_body a f g h i
+  body_named st e free (another_there a f g h i left) = no_body a f g h i
   body_named st e free (none_there a f) = no_section a (no_section_named st e free f)
 
   pub any_body_named : IsNamedAs (seen_reading (body_reading (reading_of uv) rd rs)) (IsBodyFault ud us)

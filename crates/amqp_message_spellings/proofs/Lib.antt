@@ -7,3 +7,4 @@ pub mod Messages
 pub mod NoTerms
 pub mod Faulty
 pub mod MessageFaults
+pub mod Sections

@@ -4,6 +4,7 @@ use Rattle.amqp_wire.specs.declared.error.Error.{Error}
 use Rattle.amqp_wire.specs.declared.error.Error.TheVariants.{Misplaced}
 use Rattle.amqp_lookahead.specs.Sections.{IsSectionAhead}
 use Rattle.amqp_decoder.specs.State.{State}
+use Rattle.amqp_decoder.specs.Places.{Located}
 use Rattle.amqp_codec.specs.Composite.{composite}
 use Rattle.amqp_message_headers.specs.Tables.{header, properties}
 use Rattle.amqp_batches.specs.laws.Resuming.{IsUnlimited, fresh_top}
@@ -34,7 +35,7 @@ module _ {S B : Type 0} (made : Made S B) {group : Spells S} {body : Faults} (l 
     (b : IsNamedAs made.group body) where
   -- The kind of this code has the fault that its bytes have.
   abbrev Names : ℕ → Type 0
-  Names c = (st : State) (e : Error) → IsUnlimited st → ((shape made l).kind_of c).reading.fault st e → IsGroupFault body c st.rest e
+  Names c = (st : State) (e : Located) → IsUnlimited st → ((shape made l).kind_of c).reading.fault st e → IsGroupFault body c st.rest e.error
 
   by_code : (c : ℕ) → IsCode c → Names c
   by_code c (inl e) = subst Names (sym e) (λ st x free f. inr (refl, (term_named (composite header)).named st x free f))
@@ -51,20 +52,20 @@ module _ {S B : Type 0} (made : Made S B) {group : Spells S} {body : Faults} (l 
   by_code c (inr (inr (inr (inr (inr (inr (inr (inr e)))))))) =
       subst Names (sym e) (λ st x free f. inr (refl, (term_named footer).named st x free f))
 
-  group_named : (c : ℕ) (st : State) (e : Error) → IsUnlimited st → IsSectionAhead st.rest c
-      → ((shape made l).kind_of c).reading.fault st e → IsGroupFault body c st.rest e
+  group_named : (c : ℕ) (st : State) (e : Located) → IsUnlimited st → IsSectionAhead st.rest c
+      → ((shape made l).kind_of c).reading.fault st e → IsGroupFault body c st.rest e.error
   group_named c st e free a = by_code c (code_ahead st.rest c a) st e free
 
   no_body : (m : Groups S) (e : Error) (gs : List (Group (ks made l)))
       → fields made l m ≡ put_all (ks made l) gs (nothing (ks made l)) → (shape made l).unfinished m e → HasNoBody made group gs e
   no_body m e gs is u = (ap (body_in made group) (sym is) ∙ u.0, u.1, u.2)
 
-  next_in_any : (st : State) (m : Progress (Groups S)) (e : Error) (gs : List (Group (ks made l))) → IsUnlimited st
+  next_in_any : (st : State) (m : Progress (Groups S)) (e : Located) (gs : List (Group (ks made l))) → IsUnlimited st
       → m.left ≡ left_by made l Any 7 gs → GroupFault Any (shape made l) st m e
-      → (length gs < 7) × (((c : ℕ) × IsSectionAhead st.rest c × IsGroupFault body c st.rest e) ⊎ IsNoSection st.rest e)
+      → (length gs < 7) × (((c : ℕ) × IsSectionAhead st.rest c × IsGroupFault body c st.rest e.error) ⊎ IsNoSection st.rest e.error)
   next_in_any st m e gs free left (in_group {c} a p f) =
       (omega (arith, p, left, left_any made l gs 7), inl (c, a, group_named c st e free a f))
-  next_in_any st m e gs free left (misplaced full a p x) = let none : m.left ≡ 0 = omega (arith, p) in absurd (full none)
+  next_in_any st m e gs free left (misplaced full a p x here) = let none : m.left ≡ 0 = omega (arith, p) in absurd (full none)
   next_in_any st m e gs free left (not_section full rest a f) =
       (below m.left full (left ∙ left_any made l gs 7), inr (rest, a, no_section_named st e free f))
     where
@@ -85,19 +86,19 @@ module _ {S B : Type 0} (made : Made S B) {group : Spells S} {body : Faults} (l 
     is = is;
   }
 
-  any_fault : (st : State) (e : Error) → IsUnlimited st → WalkFault (walk made l Any) st e → IsMessageFault made group body st.rest e
-  any_fault st e free (not_top n) = (let t = fresh_top st free.0 in absurd (n.0 t.1 t.2 t.3))
+  any_fault : (st : State) (e : Located) → IsUnlimited st → WalkFault (walk made l Any) st e → IsMessageFault made group body st.rest e.error
+  any_fault st e free (not_top n) = (let t = fresh_top st free.0 in absurd (n.0.0 t.1 t.2 t.3))
   any_fault st e free (in_step n part last mid steps a f) =
       let k = took_groups made l Any n st (so made l 7 (shape made l).blank) part last free steps in
-      stands_behind Any mid.rest (HasFault made group body e) k (alike_rest last mid a)
+      stands_behind Any mid.rest (HasFault made group body e.error) k (alike_rest last mid a)
       (inl (next_in_any mid part e k.groups (also_free last mid k.free a) k.left f))
-  any_fault st e free (not_made n part last steps done none) =
+  any_fault st e free (not_made n part last steps done none left) =
       let k = took_groups made l Any n st (so made l 7 (shape made l).blank) part last free steps in
       let few = placed_few made l k.groups 7 k.placed in
-      stands_behind Any last.rest (HasFault made group body e) k refl (inr (
+      stands_behind Any last.rest (HasFault made group body e.error) k refl (inr (
         few,
         seven_left made l k.groups last.rest few (subst (λ x. (x ≡ 0) ⊎ (last.rest ≡ [])) k.left done),
-        no_body part.part e k.groups k.part none,
+        no_body part.part e.error k.groups k.part none,
       ))
 
   -- How many kinds may come behind the last group is the same by both words.
@@ -105,28 +106,29 @@ module _ {S B : Type 0} (made : Made S B) {group : Spells S} {body : Faults} (l 
   left_written [] n = refl
   left_written (g ∷ gs) n = left_written gs (behind (ks made l) g)
 
-  next_in_order : (st : State) (m : Progress (Groups S)) (e : Error) (gs : List (Group (ks made l))) → IsUnlimited st
+  next_in_order : (st : State) (m : Progress (Groups S)) (e : Located) (gs : List (Group (ks made l))) → IsUnlimited st
       → m.left ≡ left_behind made group 7 gs → GroupFault Written (shape made l) st m e
-      → ((c : ℕ) × IsSectionAhead st.rest c × (((orders.behind c < left_behind made group 7 gs) × IsGroupFault body c st.rest e)
-      ⊎ ((left_behind made group 7 gs ≤ orders.behind c) × (e ≡ Misplaced)))) ⊎ IsNoSection st.rest e
+      → ((c : ℕ) × IsSectionAhead st.rest c × (((orders.behind c < left_behind made group 7 gs) × IsGroupFault body c st.rest e.error)
+      ⊎ ((left_behind made group 7 gs ≤ orders.behind c) × (e.error ≡ Misplaced)))) ⊎ IsNoSection st.rest e.error
   next_in_order st m e gs free left (in_group {c} a p f) =
       inl (c, a, inl (subst (λ n. orders.behind c < n) left p, group_named c st e free a f))
-  next_in_order st m e gs free left (misplaced {c} full a p x) = inl (c, a, inr (subst (λ n. n ≤ orders.behind c) left p, x))
+  next_in_order st m e gs free left (misplaced {c} full a p x here) = inl (c, a, inr (subst (λ n. n ≤ orders.behind c) left p, x))
   next_in_order st m e gs free left (not_section full rest a f) = inr (rest, a, no_section_named st e free f)
 
-  strict_fault : (st : State) (e : Error) → IsUnlimited st → WalkFault (walk made l Written) st e → IsStrictFault made group body st.rest e
-  strict_fault st e free (not_top n) = (let t = fresh_top st free.0 in absurd (n.0 t.1 t.2 t.3))
+  strict_fault : (st : State) (e : Located) → IsUnlimited st → WalkFault (walk made l Written) st e
+      → IsStrictFault made group body st.rest e.error
+  strict_fault st e free (not_top n) = (let t = fresh_top st free.0 in absurd (n.0.0 t.1 t.2 t.3))
   strict_fault st e free (in_step n part last mid steps a f) =
       let k = took_groups made l Written n st (so made l 7 (shape made l).blank) part last free steps in
-      stands_behind Written mid.rest (HasStrictFault made group body e) k (alike_rest last mid a) (
+      stands_behind Written mid.rest (HasStrictFault made group body e.error) k (alike_rest last mid a) (
         placed_fall made l k.groups 7 k.placed,
         inl (next_in_order mid part e k.groups (also_free last mid k.free a) (k.left ∙ left_written k.groups 7) f),
       )
-  strict_fault st e free (not_made n part last steps done none) =
+  strict_fault st e free (not_made n part last steps done none left) =
       let k = took_groups made l Written n st (so made l 7 (shape made l).blank) part last free steps in
-      stands_behind Written last.rest (HasStrictFault made group body e) k refl (
+      stands_behind Written last.rest (HasStrictFault made group body e.error) k refl (
         placed_fall made l k.groups 7 k.placed,
-        inr (at_end made l last.rest done, no_body part.part e k.groups k.part none),
+        inr (at_end made l last.rest done, no_body part.part e.error k.groups k.part none),
       )
 
   pub message_named : IsNamedAs (walk_reading (message_walk Any (shape made l))) (IsMessageFault made group body)

@@ -1,4 +1,5 @@
 pub mod Spellings
+pub mod Sections
 pub mod Bodies
 pub mod Kinds
 pub mod Messages

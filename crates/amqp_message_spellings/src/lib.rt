@@ -5,6 +5,10 @@
 ghost use Rattle.amqp_message_spellings.specs.Spellings.{IsReadExactly, IsTerm, IsSection, IsBatch, IsThere};
 ghost use Rattle.amqp_message_spellings.specs.Bodies.{IsBody};
 ghost use Rattle.amqp_message_spellings.specs.Messages.{IsMessage, IsStrictMessage};
+ghost use Rattle.std.specs.Prelude.{ℕ, List, ◌∷◌, ◌++◌};
+ghost use Rattle.amqp_section_slices.specs.declared.section_kind.SectionKind.{SectionKind};
+ghost use Rattle.amqp_section_slices.specs.Slices.{BeginsWithSection};
+ghost use Rattle.amqp_message_spellings.specs.Sections.{AreSections, HasSections, IsNextOf};
 ghost use Rattle.amqp_message_spellings.specs.Faults.{IsRefusedFor, IsNoTerm, IsRunFault, IsSectionFault, IsBodyFault, IsMessageFault, IsStrictFault};
 
 use amqp_batches::{Batch, BatchItem};
@@ -125,4 +129,17 @@ pub fn messages_of_optional_values_are_spelled<T: ValueFromBody>()
         (IsStrictMessage ⟦<Option<T> as FromBody>⟧.made (IsThere (IsTerm ⟦<AmqpValue<Option<T>> as DeserializeTerm>⟧.term))) }
     ensures strictly_refused { IsRefusedFor ⟦<Strict<Option<T>> as Deserialize>⟧.reading
         (IsStrictFault ⟦<Option<T> as FromBody>⟧.made (IsThere (IsTerm ⟦<AmqpValue<Option<T>> as DeserializeTerm>⟧.term)) IsNoTerm) }
+{}
+
+/// The bytes of a message whose body is of any kind are its sections, one after another, each one whole term. What
+/// `amqp_section_slices::split_section` returns of them is the first.
+pub fn messages_are_sections<T: DeserializeTerm>()
+    ensures any { (b : List ℕ) (v : _) (more : List ℕ) → IsMessage ⟦<Body<T> as FromBody>⟧.made
+        (IsBody ⟦<AmqpValue<T> as DeserializeTerm>⟧.term ⟦<Data as DeserializeTerm>⟧.term ⟦<AmqpSequence<T> as DeserializeTerm>⟧.term) b v more
+        → HasSections b more }
+    ensures strict { (b : List ℕ) (v : _) (more : List ℕ) → IsStrictMessage ⟦<Body<T> as FromBody>⟧.made
+        (IsBody ⟦<AmqpValue<T> as DeserializeTerm>⟧.term ⟦<Data as DeserializeTerm>⟧.term ⟦<AmqpSequence<T> as DeserializeTerm>⟧.term) b v more
+        → HasSections b more }
+    ensures next { (b : List ℕ) (c : ℕ) (cs more : List ℕ) (kind : SectionKind) (bytes rest : List ℕ) → AreSections b (c ∷ cs) more
+        → BeginsWithSection (b ++ more) kind bytes rest → IsNextOf b c cs more kind bytes rest }
 {}

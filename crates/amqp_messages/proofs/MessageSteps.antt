@@ -7,15 +7,16 @@ use Rattle.amqp_lookahead.specs.Sections.{IsSectionAhead}
 use Rattle.amqp_lookahead.proofs.SectionsAhead.{one_ahead}
 use Rattle.amqp_decoder.specs.State.{State}
 use Rattle.amqp_decoder.specs.Steps.{IsExcused, RefusesBy, Began, Passed}
-use Rattle.amqp_decoder.specs.Reading.{RefusesRead}
 use Rattle.amqp_decoder.proofs.Steps.{answered_later}
+use Rattle.amqp_decoder.specs.Places.{Located, RefusesAt, StandsHere}
+use Rattle.amqp_decoder.proofs.Places.{placed_later}
 use Rattle.amqp_codec.specs.Reading.{AreAlike}
 use Rattle.amqp_codec.proofs.Tries.{began_passed}
 use Rattle.amqp_codec.specs.laws.Refusal.{NoneStands, or_else}
 use Rattle.amqp_batches.specs.laws.State.{still_among, alike_stays, alike_rest, alike_trans}
 use Rattle.amqp_batches.specs.Walk.{IsAtTop, Walk, Steps, Walked, WalkFault, not_top, in_step}
 use Rattle.amqp_batches.specs.laws.Walk.{steps_top}
-use Rattle.amqp_batches.proofs.WalkSteps.{SoFar, so_far_stays, none_walked, step_made, step_refused, finished, ran_out, unmade}
+use Rattle.amqp_batches.proofs.WalkSteps.{SoFar, so_far_stays, top_fault, none_walked, step_made, step_refused, finished, ran_out, unmade}
 use Rattle.amqp_messages.specs.declared.order.Order.{Order}
 use Rattle.amqp_messages.specs.declared.order.Order.TheVariants.{Any, Written}
 use Rattle.amqp_messages.specs.Orders.{further, IsFull}
@@ -29,23 +30,22 @@ module _ {M V : Type 0} (o : Order) (s : Shape M V) where
   w = message_walk o s
 
   abbrev Refuses : State → Error → State → Type 0
-  Refuses st e new = RefusesRead true (Walked w) (WalkFault w) st e new
+  Refuses st e new = RefusesAt true (Walked w) (WalkFault w) st e new
 
   -- no section that may stand there comes next
-  fault_here : (st : State) (m : Progress M) (mid : State) (e : Error) → SoFar w st m mid → NextFault o m.left mid e → WalkFault w st e
-  fault_here st m mid e h (next.not_top n) =
-      let s = so_far_stays w st m mid h in not_top ((λ p q a. n.0 (s.place ∙ p) (s.saved ∙ q) (still_among s ∙ a)), n.1)
-  fault_here st m mid e h (next.misplaced some a l i) =
-      in_step h.number m h.last mid h.steps h.here (misplaced some a l i)
+  fault_here : (st : State) (m : Progress M) (mid : State) (e : Located) → SoFar w st m mid → NextFault o m.left mid e → WalkFault w st e
+  fault_here st m mid e h (next.not_top n) = top_fault w st m mid e h n
+  fault_here st m mid e h (next.misplaced some a l i left) =
+      in_step h.number m h.last mid h.steps h.here (misplaced some a l i left)
   fault_here st m mid e h (next.not_section {seen} some more none a f) =
       let same = alike_rest mid seen a in
       in_step h.number m h.last seen h.steps (alike_trans h.last mid seen h.here a)
       (not_section some (λ r. more (sym same ∙ r)) (λ c k. none c (subst (λ b. IsSectionAhead b c) same k)) f)
 
-  none_next : (st : State) (m : Progress M) (mid : State) (e : Error) → SoFar w st m mid → NextFault o m.left mid e → NoneStands (Walked w) st
+  none_next : (st : State) (m : Progress M) (mid : State) (e : Located) → SoFar w st m mid → NextFault o m.left mid e → NoneStands (Walked w) st
   none_next st m mid e h (next.not_top n) =
-      λ v b k. (let s = so_far_stays w st m mid h in n.0 (s.place ∙ k.top.1) (s.saved ∙ k.top.2) (still_among s ∙ k.top.3))
-  none_next st m mid e h (next.misplaced {c} some a l i) =
+      λ v b k. (let s = so_far_stays w st m mid h in n.0.0 (s.place ∙ k.top.1) (s.saved ∙ k.top.2) (still_among s ∙ k.top.3))
+  none_next st m mid e h (next.misplaced {c} some a l i left) =
       none_walked w st m mid mid h refl
       (λ n x b like k.
       (let same = one_ahead mid.rest k.code c k.ahead a in
@@ -59,13 +59,13 @@ module _ {M V : Type 0} (o : Order) (s : Shape M V) where
 
   -- the look at the next section was refused
   pub next_refused : (st : State) (m : Progress M) (mid : State) (e : Error) (new : State) → SoFar w st m mid
-      → RefusesRead true (FindsNext o m.left) (NextFault o m.left) mid e new → Refuses st e new
+      → RefusesAt true (FindsNext o m.left) (NextFault o m.left) mid e new → Refuses st e new
   next_refused st m mid e new h r =
       let s = so_far_stays w st m mid h in
       record {
         kept = answered_later s.sound r.kept;
         again = again h.number refl;
-        named = λ g. or_else (λ x. x) (fault_here st m mid e h) (r.named (s.error ∙ g));
+        named = λ g. or_else (λ x. x) (placed_later st mid new s.sound (λ x. fault_here st m mid x h)) (r.named (s.error ∙ g));
         none = by_error mid.error refl;
       }
     where
@@ -78,7 +78,7 @@ module _ {M V : Type 0} (o : Order) (s : Shape M V) where
           let going = g.0 in absurd (cc)
 
       by_error : (x : Option Error) → mid.error ≡ x → IsExcused true e new ⊎ NoneStands (Walked w) st
-      by_error None i = or_else (λ x. x) (none_next st m mid e h) (r.named i)
+      by_error None i = or_else (λ x. x) (λ x. none_next st m mid _ h x.1) (r.named i)
       by_error (Some d) i = inr (λ v b k. (let j = (so_far_stays w st m mid h).error ∙ k.top.0 in absurd (cc)))
 
   -- the section that comes next, and may stand there
@@ -116,10 +116,10 @@ module _ {M V : Type 0} (o : Order) (s : Shape M V) where
   -- it was refused
   pub group_refused : {a : Bool} (st : State) (m : Progress M) (mid : State) (c : ℕ) (here : State) (e : Error) (new : State)
       → SoFar w st m mid → FoundThere m mid c here
-      → RefusesRead a (s.kind_of c).reading.reads (s.kind_of c).reading.fault here e new → Refuses st e new
+      → RefusesAt a (s.kind_of c).reading.reads (s.kind_of c).reading.fault here e new → Refuses st e new
   group_refused st m mid c here e new h f r =
       step_refused w (s.kind_of c).reading.reads (s.kind_of c).reading.fault st m mid here e new h f.top f.alike (λ _. refl)
-      (λ k. in_group f.ahead f.in_place k)
+      (λ x k. in_group f.ahead f.in_place k)
       (λ none n x b like k.
       (let same = one_ahead here.rest k.code c k.ahead f.ahead in
       let g : GroupRead (s.kind_of c) here n.part x.part b =
@@ -163,11 +163,11 @@ module _ {M V : Type 0} (o : Order) (s : Shape M V) where
 
   -- or there is a reason why it isn't
   pub message_refused : (st : State) (m : Progress M) (mid here : State) (error e : Error) (new : State) → SoFar w st m mid
-      → IsDone m mid here → (error ≡ Memory) ⊎ s.unfinished m.part error → RefusesBy error here e new → Refuses st e new
-  message_refused st m mid here error e new h d (inl i) refused =
+      → IsDone m mid here → (error ≡ Memory) ⊎ s.unfinished m.part error → RefusesBy error here e new → StandsHere here new → Refuses st e new
+  message_refused st m mid here error e new h d (inl i) refused at =
       ran_out w st m mid here e new refl h d.top (alike_stays mid here d.alike) (subst (λ z. RefusesBy z here e new) i refused)
-  message_refused st m mid here error e new h d (inr u) refused =
-      unmade w st m mid here error e new h d.top d.alike d.done u refused
+  message_refused st m mid here error e new h d (inr u) refused at =
+      unmade w st m mid here error e new h d.top d.alike d.done u refused at
 
 -- what was found
 pub found_as : (o : Order) {left : ℕ} {st : State} (found : Option ℕ) (c : ℕ) (b : State) → found ≡ Some c → FindsNext o left st found b

@@ -1,5 +1,5 @@
 -- How it is found which section of a message comes next.
-use Rattle.std.proofs.Common.{◌≡◌, inl, inr, ℕ, ◌<◌, ◌≤◌, Bool, true, false, IsTrue, [], Option, Some, None, ◌⊎◌, refl, sym}
+use Rattle.std.proofs.Common.{◌≡◌, inl, inr, ℕ, ◌<◌, ◌≤◌, Bool, true, false, IsTrue, [], length, Option, Some, None, ◌⊎◌, refl, sym, ap}
 use Rattle.std.proofs.Common.{◌∙◌, subst, arith}
 use Rattle.amqp_wire.specs.declared.error.Error.{Error}
 use Rattle.amqp_wire.specs.declared.error.Error.TheVariants.{Misplaced}
@@ -7,9 +7,11 @@ use Rattle.amqp_lookahead.specs.Sections.{IsSectionAhead}
 use Rattle.amqp_lookahead.proofs.SectionsAhead.{one_ahead}
 use Rattle.amqp_decoder.specs.State.{State}
 use Rattle.amqp_decoder.specs.Steps.{IsExcused, RefusesBy}
-use Rattle.amqp_decoder.specs.Reading.{RefusesRead}
 use Rattle.amqp_decoder.specs.Sections.{NotTop, Ends, PeeksSection}
 use Rattle.amqp_decoder.proofs.Steps.{answered_later, first_kept}
+use Rattle.amqp_decoder.proofs.Places.{before_later}
+use Rattle.amqp_decoder.specs.Places.{Here, RefusesAt, StandsHere}
+use Rattle.amqp_decoder.proofs.Places.{placed_later}
 use Rattle.amqp_codec.specs.Reading.{AreAlike}
 use Rattle.amqp_codec.specs.laws.Refusal.{NoneStands, excused_as, no_memory, or_else}
 use Rattle.amqp_batches.specs.laws.State.{still_among, alike_stays, alike_rest, alike_trans}
@@ -25,7 +27,7 @@ ends_alike st b mid h = subst (AreAlike st) (sym h.kept) refl
 
 module _ (o : Order) (left : ℕ) where
   abbrev Refuses : State → Error → State → Type 0
-  Refuses st e new = RefusesRead true (FindsNext o left) (NextFault o left) st e new
+  Refuses st e new = RefusesAt true (FindsNext o left) (NextFault o left) st e new
 
   finds_top : (st : State) (v : Option ℕ) (b : State) → (IsFull o left → ⊥) → FindsNext o left st v b → IsAtTop st
   finds_top st v b some (full f i j) = absurd (some f)
@@ -33,18 +35,18 @@ module _ (o : Order) (left : ℕ) where
   finds_top st v b some (section t f a p i l) = t
 
   -- the look at the end was refused
-  pub end_refused : (st : State) (e : Error) (new : State) → (IsFull o left → ⊥) → RefusesRead false Ends NotTop st e new → Refuses st e new
+  pub end_refused : (st : State) (e : Error) (new : State) → (IsFull o left → ⊥) → RefusesAt false Ends (Here NotTop) st e new → Refuses st e new
   end_refused st e new some q = record {
     kept = q.kept;
     again = q.again;
-    named = λ g. or_else (excused_as e new no_memory) not_top (q.named g);
+    named = λ g. or_else (excused_as e new no_memory) (placed_later {g = NextFault o left st} st st new refl (λ x n. not_top n)) (q.named g);
     none = by_error st.error refl;
   }
     where
       by_error : (x : Option Error) → st.error ≡ x → IsExcused true e new ⊎ NoneStands (FindsNext o left) st
       by_error None i =
           or_else (excused_as e new no_memory)
-          (λ n v b h. (let t = finds_top st v b some h in n.0 t.1 t.2 t.3)) (q.named i)
+          (λ n v b h. (let t = finds_top st v b some h in n.1.0.0 t.1 t.2 t.3)) (q.named i)
       by_error (Some d) i = inr (λ v b h. (let t = finds_top st v b some h in let g = t.0 in absurd (cc)))
 
   pub ended : (st : State) (b : Bool) (mid : State) → b ≡ true → Ends st b mid → FindsNext o left st None mid
@@ -55,13 +57,13 @@ module _ (o : Order) (left : ℕ) where
     not_ended r = let a = h.answer in let t : IsTrue b = a.1 r in let z : false ≡ true = sym more ∙ t in absurd (cc)
 
     -- the look at the section was refused
-    pub peek_refused : (e : Error) (new : State) → RefusesRead false PeeksSection NotTop mid e new → Refuses st e new
+    pub peek_refused : (e : Error) (new : State) → RefusesAt false PeeksSection (Here NotTop) mid e new → Refuses st e new
     peek_refused e new q =
         let s = alike_stays st mid (ends_alike st b mid h) in
         let only : IsExcused true e new =
         elim (q.named (s.error ∙ h.going)) [
           | inl x ↦ excused_as e new no_memory x
-          | inr x ↦ absurd (x.0 (s.place ∙ h.place) (s.saved ∙ h.saved) (still_among s ∙ h.among))
+          | inr x ↦ absurd (x.1.0.0 (s.place ∙ h.place) (s.saved ∙ h.saved) (still_among s ∙ h.among))
         ] in
         record { kept = answered_later s.sound q.kept; again = λ d x. (let g = h.going in absurd (cc)); named = λ _. inl only; none = inl only }
 
@@ -87,11 +89,15 @@ module _ (o : Order) (left : ℕ) where
 
       -- it may not stand there
       pub misplaced_refused : (c : ℕ) (e : Error) (new : State) → found ≡ Some c → left ≤ further o left c → RefusesBy Misplaced here e new
-          → Refuses st e new
-      misplaced_refused c e new i l refused = record {
+          → StandsHere here new → Refuses st e new
+      misplaced_refused c e new i l refused at = record {
         kept = answered_later (alike_stays st here alike).sound (first_kept {st = here} going refused);
         again = λ d x. (let g = h.going in absurd (cc));
-        named = λ _. inr (misplaced some (ahead c i) l (refused going).0);
+        named = λ _. inr (
+          length here.rest,
+          misplaced some (ahead c i) l (refused going).0 (ap length (alike_rest st here alike)),
+          before_later st here (length here.rest) new (alike_stays st here alike).sound (at going),
+        );
         none = inr none;
       }
         where
@@ -103,11 +109,13 @@ module _ (o : Order) (left : ℕ) where
 
       -- none comes next
       pub not_section_refused : (e : Error) (new : State) → found ≡ None
-          → RefusesRead true (λ st (none : Unit {0}) b. ⊥) NoSection here e new → Refuses st e new
+          → RefusesAt true (λ st (none : Unit {0}) b. ⊥) NoSection here e new → Refuses st e new
       not_section_refused e new i q = record {
         kept = answered_later (alike_stays st here alike).sound q.kept;
         again = λ d x. (let g = h.going in absurd (cc));
-        named = λ _. or_else (λ x. x) (λ n. not_section some not_ended (none_ahead i) alike n) (q.named going);
+        named = λ _. or_else (λ x. x)
+            (placed_later {g = NextFault o left st} st here new (alike_stays st here alike).sound (λ x n. not_section some not_ended (none_ahead i) alike n))
+            (q.named going);
         none = inr none;
       }
         where

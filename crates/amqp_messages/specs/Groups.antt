@@ -1,10 +1,11 @@
 -- The groups of a message: how each kind of section is read into what was read so far (Part 3, section 3.2).
-use Rattle.std.specs.Prelude.{◌≡◌, ◌⊎◌, ℕ, ◌+◌, ◌<◌, ◌≤◌, List, []}
+use Rattle.std.specs.Prelude.{◌≡◌, ◌⊎◌, ℕ, ◌+◌, ◌<◌, ◌≤◌, List, [], length}
 use Rattle.amqp_wire.specs.declared.error.Error.{Error}
 use Rattle.amqp_wire.specs.declared.error.Error.TheVariants.{Misplaced}
 use Rattle.amqp_lookahead.specs.Sections.{IsSectionAhead}
 use Rattle.amqp_decoder.specs.State.{State}
 use Rattle.amqp_decoder.specs.Steps.{IsOutside}
+use Rattle.amqp_decoder.specs.Places.{Located}
 use Rattle.amqp_codec.specs.Reading.{Reading}
 use Rattle.amqp_batches.specs.Walk.{IsAtTop}
 use Rattle.amqp_batches.specs.NoSections.{NoSection}
@@ -71,10 +72,10 @@ module _ {M V : Type 0} (o : Order) (s : Shape M V) where
     pub fills : GroupRead (s.kind_of code) st m.part x.part b
 
   -- Why there is none: a fault of the group whose section comes next; or that section may not stand there; or none comes next.
-  pub data GroupFault (st : State) (m : Progress M) (e : Error) : Type 0 where
+  pub data GroupFault (st : State) (m : Progress M) (e : Located) : Type 0 where
     in_group : {c : ℕ} → IsSectionAhead st.rest c → further o m.left c < m.left → (s.kind_of c).reading.fault st e → GroupFault st m e
-    misplaced : {c : ℕ} → (IsFull o m.left → ⊥) → IsSectionAhead st.rest c → m.left ≤ further o m.left c → e ≡ Misplaced
-        → GroupFault st m e
+    misplaced : {c : ℕ} → (IsFull o m.left → ⊥) → IsSectionAhead st.rest c → m.left ≤ further o m.left c → e.error ≡ Misplaced
+        → e.left ≡ length st.rest → GroupFault st m e
     not_section : (IsFull o m.left → ⊥) → (st.rest ≡ [] → ⊥) → ((c : ℕ) → IsSectionAhead st.rest c → ⊥) → NoSection st e
         → GroupFault st m e
 

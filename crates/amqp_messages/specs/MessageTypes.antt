@@ -2,7 +2,7 @@
 use Rattle.std.specs.Prelude.{◌≡◌, ℕ, true, Option, Some, None, Result, Ok, Err}
 use Rattle.amqp_wire.specs.declared.error.Error.{Error}
 use Rattle.amqp_decoder.specs.State.{State}
-use Rattle.amqp_decoder.specs.Reading.{RefusesRead}
+use Rattle.amqp_decoder.specs.Places.{RefusesAt}
 use Rattle.amqp_codec.specs.TermType.{TermType}
 use Rattle.amqp_codec.specs.Reading.{Reading}
 use Rattle.amqp_codec.specs.TermReading.{reading_of}
@@ -42,13 +42,13 @@ readings_of h d m p a f body = record {
 -- What was read is there now, or why nothing is.
 abbrev pub AnswersPut : {A : Type 0} → Reading A → Option A → State → Result (Unit {0}) Error → State → Type 0
 AnswersPut {A} r place st (Ok none) b = (v : A) × r.reads st v b × (place ≡ Some v)
-AnswersPut r place st (Err e) b = RefusesRead true r.reads r.fault st e b
+AnswersPut r place st (Err e) b = RefusesAt true r.reads r.fault st e b
 
 -- A group of this kind was read into what was read before, or why none is.
 abbrev pub AnswersGroup : {M : Type 0} {alike : M → M → Type 0} {weight : M → ℕ} → Kind M alike weight → M → M → State
     → Result (Unit {0}) Error → State → Type 0
 AnswersGroup k m x st (Ok none) b = GroupRead k st m x b
-AnswersGroup k m x st (Err e) b = RefusesRead true k.reading.reads k.reading.fault st e b
+AnswersGroup k m x st (Err e) b = RefusesAt true k.reading.reads k.reading.fault st e b
 
 abbrev pub shape_of : {S B : Type 0} → TermType Header → TermType DeliveryAnnotations → TermType MessageAnnotations → TermType Properties
     → TermType ApplicationProperties → TermType Footer → Made S B → Shape (Groups S) (Message B)

@@ -1,15 +1,16 @@
 -- How a message is read, group by group.
-use Rattle.std.proofs.Common.{◌≡◌, inl, inr, ℕ, ◌<◌, Bool, true, List, length, refl, sym, ap, ◌∙◌, subst, arith}
+use Rattle.std.proofs.Common.{◌≡◌, inl, inr, ℕ, ◌<◌, Bool, true, List, length, refl, sym, ap, ◌∙◌, subst, arith, ◌≤◌}
 use Rattle.amqp_wire.specs.declared.error.Error.{Error}
 use Rattle.amqp_wire.specs.declared.error.Error.TheVariants.{Misplaced}
 use Rattle.amqp_lookahead.proofs.SectionsAhead.{one_ahead}
 use Rattle.amqp_decoder.specs.State.{Source, State}
 use Rattle.amqp_decoder.specs.Steps.{IsOutside}
 use Rattle.amqp_decoder.specs.OtherSource.{elsewhere}
+use Rattle.amqp_decoder.specs.Places.{Located}
 use Rattle.amqp_codec.specs.Reading.{looking, AreAlike}
 use Rattle.amqp_batches.specs.laws.State.{any_taken}
 use Rattle.amqp_batches.specs.Walk.{Leaves, Walk}
-use Rattle.amqp_batches.specs.NoSections.{no_section_not_outside, no_section_elsewhere}
+use Rattle.amqp_batches.specs.NoSections.{no_section_not_outside, no_section_elsewhere, no_section_within}
 use Rattle.amqp_messages.specs.declared.order.Order.{Order}
 use Rattle.amqp_messages.specs.declared.order.Order.TheVariants.{Any, Written}
 use Rattle.amqp_messages.specs.Orders.{further, IsFull}
@@ -95,17 +96,22 @@ module _ {M V : Type 0} (o : Order) (s : Shape M V) where
   read_alike m n rest l (inl f) = inl (full_same o m.left n.left l.0 f)
   read_alike m n rest l (inr e) = inr e
 
-  pub group_fault_elsewhere : (source : Source) (failed : Bool) (st : State) (m : Progress M) (e : Error) → GroupFault o s st m e
+  pub group_fault_elsewhere : (source : Source) (failed : Bool) (st : State) (m : Progress M) (e : Located) → GroupFault o s st m e
       → GroupFault o s (elsewhere source failed st) m e
   group_fault_elsewhere source failed st m e (in_group {c} a p f) =
       in_group {c = c} a p ((s.kind_of c).reading.fault_elsewhere source failed st e f)
-  group_fault_elsewhere source failed st m e (misplaced {c} f a p i) = misplaced {c = c} f a p i
+  group_fault_elsewhere source failed st m e (misplaced {c} f a p i left) = misplaced {c = c} f a p i left
   group_fault_elsewhere source failed st m e (not_section f r a i) = not_section f r a (no_section_elsewhere source failed st e i)
 
-  pub group_not_outside : (e : Error) → IsOutside e → (st : State) (m : Progress M) → GroupFault o s st m e → ⊥
+  pub group_not_outside : (e : Located) → IsOutside e.error → (st : State) (m : Progress M) → GroupFault o s st m e → ⊥
   group_not_outside e out st m (in_group {c} a p f) = (s.kind_of c).reading.not_outside e out st f
-  group_not_outside e out st m (misplaced f a p i) = outside_placed e out i
+  group_not_outside e out st m (misplaced f a p i left) = outside_placed e.error out i
   group_not_outside e out st m (not_section f r a i) = no_section_not_outside e out st i
+
+  pub group_within : (st : State) (m : Progress M) (e : Located) → GroupFault o s st m e → e.left ≤ length st.rest
+  group_within st m e (in_group {c} a p f) = (s.kind_of c).reading.within st e f
+  group_within st m e (misplaced f a p i left) = omega (arith, left)
+  group_within st m e (not_section f r a i) = no_section_within st e i
 
   abbrev pub message_walk : Walk (Progress M) V
   message_walk = record {
@@ -137,4 +143,5 @@ module _ {M V : Type 0} (o : Order) (s : Shape M V) where
     fault_elsewhere = group_fault_elsewhere;
     not_outside = group_not_outside;
     unfinished_not_outside = λ e o m. s.unfinished_not_outside e o m.part;
+    within = group_within;
   }

@@ -1,7 +1,7 @@
 //! Which section of a message comes next (Part 3, section 3.2).
 ghost use Rattle.std.specs.Prelude.{◌≡◌, ◌<◌, true, false, IfOk, IfSome, OnOk};
 ghost use Rattle.amqp_wire.specs.Sources.{Tells};
-ghost use Rattle.amqp_decoder.specs.Reading.{AnswersRead};
+ghost use Rattle.amqp_decoder.specs.Places.{AnswersAt};
 ghost use Rattle.amqp_decoder.specs.Steps.{Began, Passes};
 ghost use Rattle.amqp_messages.specs.Next.{FindsNext, NextFault};
 ghost use Rattle.amqp_messages.specs.Orders.{behind, further, IsFull};
@@ -55,7 +55,7 @@ pub(crate) fn next_section<R: ByteSource>(
     decoder: &mut Decoder<R>,
     alloc: Global,
 ) -> Result<Option<u8>, Error>
-    ensures read { Tells R.remaining → AnswersRead true (FindsNext order left) (NextFault order left) decoder.old result decoder.new }
+    ensures read { Tells R.remaining → AnswersAt true (FindsNext order left) (NextFault order left) decoder.old result decoder.new }
     ensures tries { Passes true decoder.old result decoder.new }
     ensures began { OnOk result ((IsFull order left → ⊥) → Began decoder.old decoder.new) }
     ensures fewer { IfOk result (λ found. IfSome found (λ code. further order left code < left)) }

@@ -1,6 +1,6 @@
 //! Reading messages, group by group (Part 3, section 3.2).
 ghost use Rattle.amqp_wire.specs.Sources.{Tells};
-ghost use Rattle.amqp_decoder.specs.Reading.{AnswersRead};
+ghost use Rattle.amqp_decoder.specs.Places.{AnswersAt};
 ghost use Rattle.amqp_decoder.specs.Steps.{Tries};
 ghost use Rattle.std.specs.Prelude.{◌≡◌, ◌⊎◌, IfOk, IfErr, true};
 ghost use Rattle.amqp_batches.specs.Walk.{Walked, WalkFault};
@@ -145,7 +145,7 @@ pub fn read_message<B: FromBody, R: ByteSource>(
     decoder: &mut Decoder<R>,
     alloc: Global,
 ) -> Result<Message<B>, Error>
-    ensures read { Tells R.remaining → AnswersRead true (Walked (message_walk order (message_of B.made)))
+    ensures read { Tells R.remaining → AnswersAt true (Walked (message_walk order (message_of B.made)))
         (WalkFault (message_walk order (message_of B.made))) decoder.old result decoder.new }
     ensures tries { Tries true decoder.old result decoder.new }
 {

@@ -108,7 +108,10 @@ pub fn is_text<T: Serialize + Drop>(
 }
 
 /// Returns whether the symbol that was made is this text.
-pub fn is_symbol(made: Result<Symbol, Error>, text: &str) -> Result<bool, Error> {
+pub fn is_symbol(made: Result<Symbol, Error>, text: &str) -> Result<bool, Error>
+    ensures text { MatchResult made (λ symbol. IfOk result (λ well. well ≡ true → string_bytes symbol.0 ≡ text.now))
+        (λ e. result ≡ Err e) }
+{
     let symbol = made?;
     Ok(symbol.as_str() == text)
 }

@@ -337,7 +337,7 @@ abbrev ContentBeyond : stands.Piece → List ℕ → ℕ → Type 0
 ContentBeyond P z room = (c : ℕ) (data_ : List ℕ) → IsUnder P z c data_ → (kind : Container) (w n behind : ℕ) (items : List ℕ) (around : Around)
     → format c ≡ compound kind w → Contains kind w n items data_ around behind → room + (length items + behind) < length z
 
-behind_less : (P : List ℕ → Type 0) (input after : List ℕ) → Behind P input after → length after ≤ length input
+pub behind_less : (P : List ℕ → Type 0) (input after : List ℕ) → Behind P input after → length after ≤ length input
 behind_less P input after h = omega (arith, ap length h.is, length-append h.front after)
 
 beyond : (room : ℕ) (P Q : stands.Piece) (d k behind : ℕ) (z y : List ℕ) (around : Around) → IsPlain P → ContentBeyond P z room

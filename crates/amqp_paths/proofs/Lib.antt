@@ -1,6 +1,6 @@
-mod Containers
+pub mod Containers
 mod Named
-mod Among
-mod Furthers
+pub mod Among
+pub mod Furthers
 mod Datas
 mod Walked

@@ -1,4 +1,6 @@
 //! The begin of a session (Part 2, section 2.7.2).
+ghost use Rattle.std.specs.Prelude.{◌≡◌};
+ghost use Rattle.amqp_codec.specs.FieldReading.{IsBlank};
 ghost use Rattle.amqp_sums.specs.Types.{composite, fields_of, names_of, one_term, refl, agreement, writing_of};
 ghost use Rattle.amqp_performatives.specs.Tables.{begin};
 
@@ -55,6 +57,30 @@ impl Begin {
 
     /// The standard's names of the fields, in order.
     pub const FIELD_NAMES: &'static [&'static str] = begin_fields!(names);
+
+    /// Returns a begin of a session with these numbers of transfers. Each other field is omitted, or has the standard's default.
+    #[inline(always)]
+    pub fn new(
+        next_outgoing_id: TransferNumber,
+        incoming_window: u32,
+        outgoing_window: u32,
+    ) -> Begin
+        ensures next_outgoing_id { result.next_outgoing_id ≡ next_outgoing_id }
+        ensures incoming_window { result.incoming_window ≡ incoming_window }
+        ensures outgoing_window { result.outgoing_window ≡ outgoing_window }
+        ensures others { IsBlank (fields_of begin) result }
+    {
+        Begin {
+            remote_channel: None,
+            next_outgoing_id,
+            incoming_window,
+            outgoing_window,
+            handle_max: Handle(u32::MAX),
+            offered_capabilities: None,
+            desired_capabilities: None,
+            properties: None,
+        }
+    }
 }
 
 impl FieldList for Begin {
@@ -65,16 +91,7 @@ impl FieldList for Begin {
     }
 
     fn blank(_alloc: Global) -> Begin {
-        Begin {
-            remote_channel: None,
-            next_outgoing_id: 0,
-            incoming_window: 0,
-            outgoing_window: 0,
-            handle_max: Handle(u32::MAX),
-            offered_capabilities: None,
-            desired_capabilities: None,
-            properties: None,
-        }
+        Begin::new(0, 0, 0)
     }
 
     #[inline(always)]

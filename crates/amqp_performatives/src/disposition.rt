@@ -1,4 +1,6 @@
 //! A change of the state of deliveries (Part 2, section 2.7.6).
+ghost use Rattle.std.specs.Prelude.{◌≡◌};
+ghost use Rattle.amqp_codec.specs.FieldReading.{IsBlank};
 ghost use Rattle.amqp_sums.specs.Types.{composite, fields_of, names_of, one_term, refl, agreement, writing_of};
 ghost use Rattle.amqp_performatives.specs.Tables.{disposition};
 
@@ -45,6 +47,24 @@ impl Disposition {
 
     /// The standard's names of the fields, in order.
     pub const FIELD_NAMES: &'static [&'static str] = disposition_fields!(names);
+
+    /// Returns a disposition of the delivery with this number, by the end of the link with this role. Each other field is omitted, or has the
+    /// standard's default.
+    #[inline(always)]
+    pub fn new(role: Role, first: DeliveryNumber) -> Disposition
+        ensures role { result.role ≡ role }
+        ensures first { result.first ≡ first }
+        ensures others { IsBlank (fields_of disposition) result }
+    {
+        Disposition {
+            role,
+            first,
+            last: None,
+            settled: false,
+            state: None,
+            batchable: false,
+        }
+    }
 }
 
 impl FieldList for Disposition {
@@ -55,14 +75,7 @@ impl FieldList for Disposition {
     }
 
     fn blank(_alloc: Global) -> Disposition {
-        Disposition {
-            role: Role::Sender,
-            first: 0,
-            last: None,
-            settled: false,
-            state: None,
-            batchable: false,
-        }
+        Disposition::new(Role::Sender, 0)
     }
 
     #[inline(always)]

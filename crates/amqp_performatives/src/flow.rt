@@ -1,4 +1,6 @@
 //! The flow of a session or of a link (Part 2, section 2.7.4).
+ghost use Rattle.std.specs.Prelude.{◌≡◌};
+ghost use Rattle.amqp_codec.specs.FieldReading.{IsBlank};
 ghost use Rattle.amqp_sums.specs.Types.{composite, fields_of, names_of, one_term, refl, agreement, writing_of};
 ghost use Rattle.amqp_performatives.specs.Tables.{flow};
 
@@ -60,6 +62,29 @@ impl Flow {
 
     /// The standard's names of the fields, in order.
     pub const FIELD_NAMES: &'static [&'static str] = flow_fields!(names);
+
+    /// Returns a flow of a session with these numbers of transfers. Each other field is omitted, or has the standard's default.
+    #[inline(always)]
+    pub fn new(incoming_window: u32, next_outgoing_id: TransferNumber, outgoing_window: u32) -> Flow
+        ensures incoming_window { result.incoming_window ≡ incoming_window }
+        ensures next_outgoing_id { result.next_outgoing_id ≡ next_outgoing_id }
+        ensures outgoing_window { result.outgoing_window ≡ outgoing_window }
+        ensures others { IsBlank (fields_of flow) result }
+    {
+        Flow {
+            next_incoming_id: None,
+            incoming_window,
+            next_outgoing_id,
+            outgoing_window,
+            handle: None,
+            delivery_count: None,
+            link_credit: None,
+            available: None,
+            drain: false,
+            echo: false,
+            properties: None,
+        }
+    }
 }
 
 impl FieldList for Flow {
@@ -70,19 +95,7 @@ impl FieldList for Flow {
     }
 
     fn blank(_alloc: Global) -> Flow {
-        Flow {
-            next_incoming_id: None,
-            incoming_window: 0,
-            next_outgoing_id: 0,
-            outgoing_window: 0,
-            handle: None,
-            delivery_count: None,
-            link_credit: None,
-            available: None,
-            drain: false,
-            echo: false,
-            properties: None,
-        }
+        Flow::new(0, 0, 0)
     }
 
     #[inline(always)]

@@ -1,4 +1,6 @@
 //! The begin of a connection (Part 2, section 2.7.1).
+ghost use Rattle.std.specs.Prelude.{◌≡◌};
+ghost use Rattle.amqp_codec.specs.FieldReading.{IsBlank};
 ghost use Rattle.amqp_sums.specs.Types.{composite, fields_of, names_of, one_term, refl, agreement, writing_of};
 ghost use Rattle.amqp_performatives.specs.Tables.{opening};
 
@@ -61,18 +63,15 @@ impl Open {
 
     /// The standard's names of the fields, in order.
     pub const FIELD_NAMES: &'static [&'static str] = open_fields!(names);
-}
 
-impl FieldList for Open {
-    ghost list = { fields_of opening };
-
-    fn field_rules() -> &'static [FieldRule] {
-        open_fields!(rules)
-    }
-
-    fn blank(alloc: Global) -> Open {
+    /// Returns an open of the container with this name. Each other field is omitted, or has the standard's default.
+    #[inline(always)]
+    pub fn new(container_id: String) -> Open
+        ensures container_id { result.container_id ≡ container_id }
+        ensures others { IsBlank (fields_of opening) result }
+    {
         Open {
-            container_id: String::new(alloc),
+            container_id,
             hostname: None,
             max_frame_size: MaxFrameSize(u32::MAX),
             channel_max: ChannelMax(u16::MAX),
@@ -83,6 +82,18 @@ impl FieldList for Open {
             desired_capabilities: None,
             properties: None,
         }
+    }
+}
+
+impl FieldList for Open {
+    ghost list = { fields_of opening };
+
+    fn field_rules() -> &'static [FieldRule] {
+        open_fields!(rules)
+    }
+
+    fn blank(alloc: Global) -> Open {
+        Open::new(String::new(alloc))
     }
 
     #[inline(always)]

@@ -1,4 +1,6 @@
 //! A transfer of a message (Part 2, section 2.7.5).
+ghost use Rattle.std.specs.Prelude.{◌≡◌};
+ghost use Rattle.amqp_codec.specs.FieldReading.{IsBlank};
 ghost use Rattle.amqp_sums.specs.Types.{composite, fields_of, names_of, one_term, refl, agreement, writing_of};
 ghost use Rattle.amqp_performatives.specs.Tables.{transfer};
 
@@ -63,18 +65,15 @@ impl Transfer {
 
     /// The standard's names of the fields, in order.
     pub const FIELD_NAMES: &'static [&'static str] = transfer_fields!(names);
-}
 
-impl FieldList for Transfer {
-    ghost list = { fields_of transfer };
-
-    fn field_rules() -> &'static [FieldRule] {
-        transfer_fields!(rules)
-    }
-
-    fn blank(_alloc: Global) -> Transfer {
+    /// Returns a transfer on the link with this handle. Each other field is omitted, or has the standard's default.
+    #[inline(always)]
+    pub fn new(handle: Handle) -> Transfer
+        ensures handle { result.handle ≡ handle }
+        ensures others { IsBlank (fields_of transfer) result }
+    {
         Transfer {
-            handle: Handle(0),
+            handle,
             delivery_id: None,
             delivery_tag: None,
             message_format: None,
@@ -86,6 +85,18 @@ impl FieldList for Transfer {
             aborted: false,
             batchable: false,
         }
+    }
+}
+
+impl FieldList for Transfer {
+    ghost list = { fields_of transfer };
+
+    fn field_rules() -> &'static [FieldRule] {
+        transfer_fields!(rules)
+    }
+
+    fn blank(_alloc: Global) -> Transfer {
+        Transfer::new(Handle(0))
     }
 
     #[inline(always)]

@@ -5,6 +5,8 @@ use Rattle.amqp_wire.specs.declared.error.Error.{Error}
 use Rattle.amqp_decoder.specs.State.{State}
 use Rattle.amqp_decoder.specs.Reading.{RefusesRead}
 use Rattle.amqp_decoder.specs.Primitives.{ReadsValue, Means, PrimitiveFault}
+use Rattle.amqp_decoder.specs.Places.{Here, RefusesAt, StandsHere}
+use Rattle.amqp_decoder.proofs.Places.{refused_here}
 use Rattle.amqp_codec.specs.ExactType.{MeansExactly}
 use Rattle.amqp_codec.specs.PrimitiveTypes.{Base, IsOf}
 use Rattle.amqp_codec.specs.laws.Refusal.{refused_first}
@@ -28,9 +30,9 @@ module _ {A X V : Type 0} (base : Base A) (of : X → A) (content : V → X) whe
   }
 
   pub newtype_refused : {takes : Bool} (st : State) (e : Error) (new : State)
-      → RefusesRead takes ReadsContent (PrimitiveFault base.kind) st e new
-      → RefusesRead takes ReadsNewtype (PrimitiveFault base.kind) st e new
-  newtype_refused st e new =
-      refused_first ReadsContent (PrimitiveFault base.kind) ReadsNewtype (PrimitiveFault base.kind) st e new (λ t. t) (λ x. x)
+      → RefusesRead takes ReadsContent (PrimitiveFault base.kind) st e new → StandsHere st new
+      → RefusesAt takes ReadsNewtype (Here (PrimitiveFault base.kind)) st e new
+  newtype_refused st e new r here =
+      refused_first ReadsContent (Here (PrimitiveFault base.kind)) ReadsNewtype (Here (PrimitiveFault base.kind)) st e new (λ t. t) (λ x f. f)
       (λ none v b h. none (content v) b
-      (record { bytes = h.bytes; term = h.term; stands = h.stands; moved = h.moved; meant = h.meant.0 }))
+      (record { bytes = h.bytes; term = h.term; stands = h.stands; moved = h.moved; meant = h.meant.0 })) (refused_here r here)

@@ -1,5 +1,5 @@
 -- What is read from a reader is what is read from its bytes.
-use Rattle.std.proofs.Common.{◌≡◌, ◌⊎◌, inl, inr, ℕ, ◌-◌, Bool, true, false, List, length, drop, Result, Ok, Err, IfOk, IfErr, MatchResult}
+use Rattle.std.proofs.Common.{◌≡◌, ◌⊎◌, inl, inr, ℕ, ◌+◌, ◌-◌, ◌%◌, ◌^◌, ◌<◌, ◌≤◌, min, Bool, true, false, List, length, drop, Result, Ok, Err, IfOk, IfErr, MatchResult}
 use Rattle.std.proofs.Common.{None, refl, sym, ap, ◌∙◌, subst, arith}
 use Rattle.std.proofs.lemmas.List.{length-drop}
 use Rattle.amqp_wire.specs.declared.error.Error.{Error}
@@ -7,9 +7,9 @@ use Rattle.amqp_wire.specs.declared.error.Error.TheVariants.{Memory, Limit}
 use Rattle.amqp_wire.specs.declared.limits.Limits.{Limits}
 use Rattle.amqp_decoder.specs.State.{Source, Course, State, is_free, fresh_source}
 use Rattle.amqp_decoder.specs.OtherSource.{elsewhere}
-use Rattle.amqp_decoder.specs.Steps.{IsExcused, IsReadError, Refused, Tries}
-use Rattle.amqp_decoder.specs.Reading.{RefusesRead, AnswersRead}
-use Rattle.amqp_codec.specs.Reading.{Reading, apart, start_within, IsGreatest, BeginsWithin, IsUnreadableWithin, BeginsWith, IsUnreadable}
+use Rattle.amqp_decoder.specs.Steps.{unsized, IsExcused, IsReadError, Refused, Tries}
+use Rattle.amqp_decoder.specs.Places.{Located, RefusesAt, AnswersAt, IsPlaced}
+use Rattle.amqp_codec.specs.Reading.{Reading, apart, start_within, IsGreatest, BeginsWithin, IsUnreadableWithin, BeginsWith, IsUnreadable, HasFaultAt, IsFaultyAt}
 use Rattle.amqp_codec.specs.laws.Reading.{is_read, read_one, begins_greatest, greatest_begins, unreadable_greatest}
 
 module _ {T : Type 0} (limits : Limits) (r : Reading T) (input : List ℕ) (source : Source) (failed : Bool) where
@@ -38,39 +38,49 @@ module _ {T : Type 0} (limits : Limits) (r : Reading T) (input : List ℕ) (sour
       ) in
       ap (λ i. drop i b.rest) ahead ∙ (t.rest ∙ ap (λ i. drop i input) n_is)
 
-  refused_here : (e : Error) (b : State) → RefusesRead r.takes_memory r.reads r.fault begin e b → ((r.takes_memory ≡ true) × (e ≡ Memory))
+  refused_here : (e : Error) (b : State) → RefusesAt r.takes_memory r.reads r.fault begin e b → ((r.takes_memory ≡ true) × (e ≡ Memory))
       ⊎ ((IsReadError e × (b.failed.broken ≡ true)) ⊎ IsUnreadableWithin limits r input e)
   refused_here e b h = go (h.named refl) h.none
     where
-      go : IsExcused r.takes_memory e b ⊎ r.fault begin e → IsExcused r.takes_memory e b ⊎ ((v : T) (st : State) → r.reads begin v st → ⊥)
+      go : IsExcused r.takes_memory e b ⊎ IsPlaced (r.fault begin) begin e b → IsExcused r.takes_memory e b ⊎ ((v : T) (st : State) → r.reads begin v st → ⊥)
           → ((r.takes_memory ≡ true) × (e ≡ Memory)) ⊎ ((IsReadError e × (b.failed.broken ≡ true)) ⊎ IsUnreadableWithin limits r input e)
       go (inl (inl x)) n = inl x
       go (inl (inr x)) n = inr (inl x)
       go (inr f) (inl (inl x)) = inl x
       go (inr f) (inl (inr x)) = inr (inl x)
-      go (inr f) (inr n) =
+      go (inr (left, f, p)) (inr n) =
+          let there : Located = record { error = e; left = left } in
           inr (inr (record {
-            fault = r.fault_elsewhere plain false begin e f;
+            left = left;
+            fault = r.fault_elsewhere plain false begin there f;
             none = λ v m k. n v (elsewhere source failed k.after) (r.reads_elsewhere source failed (start_within limits input) v k.after k.read);
-            unspelled = λ one i. r.misspelled one limits input e i (r.fault_elsewhere plain false begin e f);
+            unspelled = λ one i. r.misspelled one limits input there i (r.fault_elsewhere plain false begin there f);
           }))
 
-  pub found : (res : Result T Error) (b : State) → AnswersRead r.takes_memory r.reads r.fault begin res b
+  -- where it was refused is where the fault stands
+  faulty_here : (e : Error) (b : State) → source.size ≡ length input % 2 ^ 64 → RefusesAt r.takes_memory r.reads r.fault begin e b
+      → ((r.takes_memory ≡ true) × (e ≡ Memory)) ⊎ ((IsReadError e × (b.failed.broken ≡ true)) ⊎ HasFaultAt limits r input e b.source.fault)
+  faulty_here e b whole h = elim (h.named refl) [
+    | inl x ↦ elim x [ inl m ↦ inl m | inr f ↦ inr (inl f) ]
+    | inr (left, f, p) ↦ inr (inr (left, r.fault_elsewhere plain false begin (record { error = e; left = left }) f, p ∙ whole))
+  ]
+
+  pub found : (res : Result T Error) (b : State) → AnswersAt r.takes_memory r.reads r.fault begin res b
       → IfOk res (λ v. (n : ℕ) × BeginsWithin limits r input v n)
   found (Ok v) b h = (length input - length b.rest, read_here v b h)
   found (Err e) b h = tt
 
-  pub one : (res : Result T Error) (b : State) → AnswersRead r.takes_memory r.reads r.fault begin res b
+  pub one : (res : Result T Error) (b : State) → AnswersAt r.takes_memory r.reads r.fault begin res b
       → IfOk res (λ v. (w : T) (m : ℕ) → BeginsWithin limits r input w m → r.same v w)
   one (Ok v) b h = λ w m k. (read_one limits r input v w (length input - length b.rest) m (read_here v b h) k).0
   one (Err e) b h = tt
 
-  pub behind : (res : Result T Error) (b : State) → AnswersRead r.takes_memory r.reads r.fault begin res b → r.looks_on ≡ false
+  pub behind : (res : Result T Error) (b : State) → AnswersAt r.takes_memory r.reads r.fault begin res b → r.looks_on ≡ false
       → (left : List ℕ) → left ≡ drop b.ahead b.rest → IfOk res (λ v. (w : T) (n : ℕ) → BeginsWithin limits r input w n → left ≡ drop n input)
   behind (Ok v) b h own left e = λ w n k. e ∙ behind_here own v b h w n k
   behind (Err x) b h own left e = tt
 
-  pub refused : (res : Result T Error) (b : State) → AnswersRead r.takes_memory r.reads r.fault begin res b → (broken : Bool)
+  pub refused : (res : Result T Error) (b : State) → AnswersAt r.takes_memory r.reads r.fault begin res b → (broken : Bool)
       → broken ≡ b.failed.broken → IfErr res (λ e. ((r.takes_memory ≡ true) × (e ≡ Memory))
       ⊎ ((IsReadError e × (broken ≡ true)) ⊎ IsUnreadableWithin limits r input e))
   refused (Ok v) b h broken e = tt
@@ -81,6 +91,19 @@ module _ {T : Type 0} (limits : Limits) (r : Reading T) (input : List ℕ) (sour
       go (inl m) = inl m
       go (inr (inl (i, f))) = inr (inl (i, e ∙ f))
       go (inr (inr u)) = inr (inr u)
+
+  pub placed : (res : Result T Error) (b : State) → source.size ≡ length input % 2 ^ 64
+      → AnswersAt r.takes_memory r.reads r.fault begin res b → (broken : Bool) → broken ≡ b.failed.broken → (place : ℕ)
+      → place ≡ b.source.fault → IfErr res (λ e. ((r.takes_memory ≡ true) × (e ≡ Memory))
+      ⊎ ((IsReadError e × (broken ≡ true)) ⊎ HasFaultAt limits r input e place))
+  placed (Ok v) b whole h broken e place there = tt
+  placed (Err x) b whole h broken e place there = elim (faulty_here x b whole h) [
+    | inl m ↦ inl m
+    | inr y ↦ elim y [
+        | inl f ↦ inr (inl (f.0, e ∙ f.1))
+        | inr f ↦ inr (inr (subst (HasFaultAt limits r input x) (sym there) f))
+      ]
+  ]
 
 -- Whatever the source tells: where it begins to fail, that is never hidden behind another error,
 pub failing : {T : Type 0} (takes : Bool) (st : State) (res : Result T Error) (b : State) → st.error ≡ None → Tries takes st res b
@@ -106,7 +129,7 @@ pub limited_refused : (takes : Bool) (limits : Limits) (st : State) (e : Error) 
     → st.failed.free ≡ is_free limits.nesting limits.bytes limits.items → Refused takes st e b → e ≡ Limit → IsGreatest limits → ⊥
 limited_refused takes limits st e b going free h is (nesting, bytes, items) =
     let f = h.1 going in
-    let kept : b.failed ≡ st.failed = elim f.1 [ inl s ↦ s | inr i ↦ absurd (subst IsReadError is i) ] in
+    let kept : unsized b.failed ≡ unsized st.failed = elim f.1 [ inl s ↦ s | inr i ↦ absurd (subst IsReadError is i) ] in
     let bounded : is_free limits.nesting limits.bytes limits.items ≡ false =
     sym free ∙ ap (λ (x : Course). x.free) (sym kept) ∙ f.4 is in
     let free : is_free limits.nesting limits.bytes limits.items ≡ true = rw (nesting, bytes, items) refl in absurd (cc)
@@ -119,12 +142,35 @@ limited takes limits st (Err e) b going free h = limited_refused takes limits st
 
 -- a source that never fails is no reason
 pub refused_whole : {T : Type 0} (limits : Limits) (r : Reading T) (input : List ℕ) (e : Error) (b : State) → b.failed.broken ≡ false
-    → RefusesRead r.takes_memory r.reads r.fault (start_within limits input) e b
+    → RefusesAt r.takes_memory r.reads r.fault (start_within limits input) e b
     → ((r.takes_memory ≡ true) × (e ≡ Memory)) ⊎ IsUnreadableWithin limits r input e
 refused_whole limits r input e b sound h = elim (refused_here limits r input (fresh_source 0 input) false e b h) [
   | inl m ↦ inl m
   | inr x ↦ elim x [ inl (i, f) ↦ absurd (cc) | inr u ↦ inr u ]
 ]
+
+-- in a slice the place is within it
+placed_within : (fault left len : ℕ) → fault < 2 ^ 64 → len < 2 ^ 64 → (fault + left) % 2 ^ 64 ≡ len % 2 ^ 64 → left ≤ len
+    → fault + left ≡ len
+placed_within fault left len small short h few = omega (arith, small, short, h, few)
+
+pub placed_whole : {T : Type 0} (limits : Limits) (r : Reading T) (input : List ℕ) (e : Error) (b : State) → b.failed.broken ≡ false
+    → RefusesAt r.takes_memory r.reads r.fault (start_within limits input) e b → (at : ℕ)
+    → at ≡ min b.source.fault (length input) → b.source.fault < 2 ^ 64 → length input < 2 ^ 64
+    → ((r.takes_memory ≡ true) × (e ≡ Memory)) ⊎ IsFaultyAt limits r input e at
+placed_whole limits r input e b sound h at is small short =
+    elim (faulty_here limits r input (fresh_source 0 input) false e b refl h) [
+      | inl m ↦ inl m
+      | inr x ↦ elim x [
+          | inl f ↦ let broken = f.1 in absurd (cc)
+          | inr f ↦ inr (
+              f.0,
+              f.1,
+              (let few = r.within (start_within limits input) (record { error = e; left = f.0 }) f.1 in
+                  let z = placed_within b.source.fault f.0 (length input) small short f.2 few in omega (arith, z, is)),
+            )
+        ]
+    ]
 
 -- no limit is passed where none is set
 pub never_limited : {A : Type 0} (limits : Limits) → IsGreatest limits → (res : Result A Error)
@@ -168,7 +214,8 @@ module _ {T : Type 0} (limits : Limits) (g : IsGreatest limits) (r : Reading T) 
 -- One term alone is read as it is where what stands behind it may be looked at.
 pub record ReadAmong {T : Type 0} (r : Reading T) (st : State) (res : Result T Error) (b : State) : Type 0 where
   pub after : State
-  pub read : AnswersRead r.takes_memory r.reads r.fault st res after
+  pub read : AnswersAt r.takes_memory r.reads r.fault st res after
+  pub source : after.source ≡ b.source
   pub rest : after.rest ≡ b.rest
   pub ahead : after.ahead ≡ b.ahead
   pub broken : after.failed.broken ≡ b.failed.broken
@@ -177,8 +224,8 @@ abbrev among : Course → Course
 among f = record f { alone = false }
 
 module _ {T : Type 0} (r : Reading T) (st : State) (shared : st.failed.alone ≡ false) where
-  read_apart : r.one_term ≡ true → (res : Result T Error) (b : State) → AnswersRead r.takes_memory r.reads r.fault (apart true st) res b
-      → AnswersRead r.takes_memory r.reads r.fault st res (apart false b)
+  read_apart : r.one_term ≡ true → (res : Result T Error) (b : State) → AnswersAt r.takes_memory r.reads r.fault (apart true st) res b
+      → AnswersAt r.takes_memory r.reads r.fault st res (apart false b)
   read_apart one (Ok v) b h =
       subst (λ (x : Bool). r.reads (apart x st) v (apart false b)) (sym shared) (r.reads_alone one false (apart true st) v b h)
   read_apart one (Err e) b h = record {
@@ -186,7 +233,12 @@ module _ {T : Type 0} (r : Reading T) (st : State) (shared : st.failed.alone ≡
     again = λ d x. (let k = h.again d x in (k.0, ap (apart false) k.1 ∙ ap (λ f. record st { failed = f }) whole));
     named = λ g. elim (h.named g) [
       | inl x ↦ inl x
-      | inr x ↦ inr (subst (λ (x : Bool). r.fault (apart x st) e) (sym shared) (r.fault_alone one false (apart true st) e x))
+      | inr (left, f, p) ↦ inr (
+          left,
+          subst (λ (x : Bool). r.fault (apart x st) (record { error = e; left = left })) (sym shared)
+              (r.fault_alone one false (apart true st) (record { error = e; left = left }) f),
+          p,
+        )
     ];
     none = elim h.none [ inl x ↦ inl x | inr x ↦ inr (λ v c k. x v (apart true c) (r.reads_alone one true st v c k)) ];
   }
@@ -195,17 +247,18 @@ module _ {T : Type 0} (r : Reading T) (st : State) (shared : st.failed.alone ≡
       whole = ap (λ x. record st.failed { alone = x }) (sym shared)
 
   read_by : (one : Bool) → r.one_term ≡ one → (res : Result T Error) (b : State)
-      → AnswersRead r.takes_memory r.reads r.fault (apart one st) res b → ReadAmong r st res b
-  read_by true is res b h = record { after = apart false b; read = read_apart is res b h; rest = refl; ahead = refl; broken = refl }
+      → AnswersAt r.takes_memory r.reads r.fault (apart one st) res b → ReadAmong r st res b
+  read_by true is res b h = record { after = apart false b; read = read_apart is res b h; source = refl; rest = refl; ahead = refl; broken = refl }
   read_by false is res b h = record {
     after = b;
-    read = subst (λ x. AnswersRead r.takes_memory r.reads r.fault (apart x st) res b) (sym shared) h;
+    read = subst (λ x. AnswersAt r.takes_memory r.reads r.fault (apart x st) res b) (sym shared) h;
+    source = refl;
     rest = refl;
     ahead = refl;
     broken = refl;
   }
 
-  pub read_among : (res : Result T Error) (b : State) → AnswersRead r.takes_memory r.reads r.fault (apart r.one_term st) res b
+  pub read_among : (res : Result T Error) (b : State) → AnswersAt r.takes_memory r.reads r.fault (apart r.one_term st) res b
       → ReadAmong r st res b
   read_among res b h = read_by r.one_term refl res b h
 

@@ -85,13 +85,17 @@ module _ {T : Type 0} {r : Reading T} {canons : T → List Term} {is_value : T �
       }
 
   -- what was read within limits is refused for its size, as what is read without
+  pub not_written : (limits : Limits) (input : List ℕ) (v : T) (n : ℕ) (e : Error) → BeginsWithin limits r input v n
+      → (e ≡ Memory) ⊎ AreUnwritable (canons v) e → (e ≡ Memory) ⊎ IsUnwrittenWithin limits r canons input e
+  not_written limits input v n e h (inl m) = inl m
+  not_written limits input v n e h (inr u) =
+      let large = laws.large input v n e (laws.bounded limits input v n h) u in
+      inr (record { value = v; length = n; read = h; unwritable = u; large = large })
+
   pub unwritten_within : (limits : Limits) (input : List ℕ) (v : T) (n : ℕ) (e : Error)
       → BeginsWithin limits r input v n → (e ≡ Memory) ⊎ AreUnwritable (canons v) e
       → (e ≡ Memory) ⊎ (IsUnreadableWithin limits r input e ⊎ IsUnwrittenWithin limits r canons input e)
-  unwritten_within limits input v n e h (inl m) = inl m
-  unwritten_within limits input v n e h (inr u) =
-      let large = laws.large input v n e (laws.bounded limits input v n h) u in
-      inr (inr (record { value = v; length = n; read = h; unwritable = u; large = large }))
+  unwritten_within limits input v n e h u = elim (not_written limits input v n e h u) [ inl m ↦ inl m | inr x ↦ inr (inr x) ]
 
   -- what was read is refused for its size
   pub unwritten : (input : List ℕ) (v : T) (n : ℕ) (e : Error) → BeginsWith r input v n → (e ≡ Memory) ⊎ AreUnwritable (canons v) e
@@ -104,7 +108,8 @@ module _ {T : Type 0} {r : Reading T} {canons : T → List Term} {is_value : T �
 pub unfailing : {T : Type 0} {r : Reading T} {canons : T → List Term} {input : List ℕ} {e : Error}
     → (e ≡ Memory) ⊎ (IsUnreadable r input e ⊎ IsUnwritten r canons input e) → IsReadError e → ⊥
 unfailing (inl m) read = subst IsReadError m read
-unfailing {r = r} {input = input} {e = e} (inr (inl u)) read = r.not_outside e (read_is_outside e read) (start input) u.fault
+unfailing {r = r} {input = input} {e = e} (inr (inl u)) read =
+    r.not_outside (record { error = e; left = u.left }) (read_is_outside e read) (start input) u.fault
 unfailing (inr (inr w)) read = subst IsReadError w.large read
 
 -- nor that of a limit, where what is read may be refused for its size alone

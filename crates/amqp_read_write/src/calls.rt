@@ -4,7 +4,7 @@ ghost use Rattle.amqp_wire.specs.declared.error.Error.TheVariants.{Memory, Limit
 ghost use Rattle.amqp_encoder.specs.declared.size.Size.{Size};
 ghost use Rattle.amqp_encoder.specs.Passes.{row_text, BeginsMeasuring, Finds};
 ghost use Rattle.amqp_decoder.specs.Steps.{IsReadError};
-ghost use Rattle.amqp_codec.specs.Reading.{IsGreatest, BeginsWith, IsUnreadable, BeginsWithin, IsUnreadableWithin};
+ghost use Rattle.amqp_codec.specs.Reading.{IsGreatest, BeginsWith, IsUnreadable, BeginsWithin, IsUnreadableWithin, IsFaultyAt};
 ghost use Rattle.amqp_read_write.specs.Rewritten.{IsRewritten, IsReadAgain, AreReadAgain, IsOneText, IsOfNoOther, IsUnchanged, IsShortest, AreShortest};
 ghost use Rattle.amqp_read_write.specs.Rewritten.{IsUnwritten, IsRewrittenWithin, IsUnwrittenWithin};
 ghost use Rattle.amqp_read_write.specs.Room.{IsPlaced};
@@ -98,6 +98,8 @@ pub fn from_slice_located<T: Deserialize>(
     ensures bounded { (v : _) (n : ℕ) → BeginsWithin limits.now T.reading input.now v n → T.reading.count v ≤ n }
     ensures refused { IfErr result (λ r.
         ((T.reading.takes_memory ≡ true) × (r.error ≡ Memory)) ⊎ IsUnreadableWithin limits.now T.reading input.now r.error) }
+    ensures place { IfErr result (λ r.
+        ((T.reading.takes_memory ≡ true) × (r.error ≡ Memory)) ⊎ IsFaultyAt limits.now T.reading input.now r.error r.at) }
     ensures memory { IfErr result (λ r. r.error ≡ Memory → T.reading.takes_memory ≡ true) }
     ensures unfailing { IfErr result (λ r. IsReadError r.error → ⊥) }
     ensures limited { IfErr result (λ r. r.error ≡ Limit → IsGreatest limits.now → ⊥) }
@@ -251,8 +253,7 @@ pub fn canonical_text_within<T: Canonical>(
 }
 
 /// Writes the canonical text of the value at the start of `input` to the start of `room`, as `write_into` does. It returns the text's
-/// length in bytes, and the number of bytes that the value takes in `input`. What `canonical_text_within` says of its text holds of this
-/// one. Nothing of the text is allocated.
+/// length in bytes, and the number of bytes that the value takes in `input`. Nothing of the text is allocated.
 ///
 /// # Errors
 ///

@@ -18,6 +18,7 @@ ghost use Rattle.amqp_codec.specs.Written.{AreWritable, AreUnwritable};
 ghost use Rattle.std.specs.Prelude.{take};
 ghost use Rattle.amqp_decoder.specs.State.{State, Has};
 ghost use Rattle.amqp_decoder.specs.Reading.{PeeksCode};
+ghost use Rattle.amqp_decoder.specs.Places.{Located};
 ghost use Rattle.amqp_codec.specs.EitherMeaning.{EitherFault};
 ghost use Rattle.amqp_codec.specs.Reading.{BeginsWith, BeginsWithin, IsUnreadableWithin};
 
@@ -142,9 +143,9 @@ pub fn texts_of_parts_are_least<K: MapKey + Ord, T: DeserializeTerm>()
 
 /// A sum of two types that are distinguished by the first code reports a fault of the type that the code selects, and of no other.
 pub fn faults_of_a_sum<A: DeserializeTerm, B: DeserializeTerm>()
-    ensures first { (is_first : ℕ → Bool) (st mid : State) (c : ℕ) (e : Error) → PeeksCode st c mid → is_first c ≡ true
+    ensures first { (is_first : ℕ → Bool) (st mid : State) (c : ℕ) (e : Located) → PeeksCode st c mid → is_first c ≡ true
         → EitherFault is_first A.term.faults B.term.faults st e → A.term.faults.fault mid e }
-    ensures second { (is_first : ℕ → Bool) (st mid : State) (c : ℕ) (e : Error) → PeeksCode st c mid → is_first c ≡ false
+    ensures second { (is_first : ℕ → Bool) (st mid : State) (c : ℕ) (e : Located) → PeeksCode st c mid → is_first c ≡ false
         → EitherFault is_first A.term.faults B.term.faults st e → B.term.faults.fault mid e }
 {}
 

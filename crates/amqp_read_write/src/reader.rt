@@ -8,7 +8,7 @@ ghost use Rattle.amqp_decoder.specs.Reserve.{Leaves};
 ghost use Rattle.amqp_decoder.specs.OtherSource.{elsewhere};
 ghost use Rattle.amqp_read_write.specs.Reserved.{reserved, IsRestOf};
 ghost use Rattle.amqp_decoder.specs.Steps.{IsReadError};
-ghost use Rattle.amqp_codec.specs.Reading.{apart, start_within, IsGreatest, BeginsWith, IsUnreadable, BeginsWithin, IsUnreadableWithin};
+ghost use Rattle.amqp_codec.specs.Reading.{apart, start_within, IsGreatest, BeginsWith, IsUnreadable, BeginsWithin, IsUnreadableWithin, HasFaultAt};
 
 use amqp_codec::Deserialize;
 use amqp_decoder::{Decoder, decoder_of_term, decoder_within, source_of};
@@ -94,6 +94,9 @@ pub fn from_reader_located<T: Deserialize, R: ByteSource>(
     ensures refused { Tells R.remaining → IfErr result (λ r. ((T.reading.takes_memory ≡ true) × (r.error ≡ Memory))
         ⊎ ((IsReadError r.error × (R.failed reader.new ≡ true))
         ⊎ IsUnreadableWithin limits.now T.reading (known (R.remaining reader.old)) r.error)) }
+    ensures place { Tells R.remaining → IfErr result (λ r. ((T.reading.takes_memory ≡ true) × (r.error ≡ Memory))
+        ⊎ ((IsReadError r.error × (R.failed reader.new ≡ true))
+        ⊎ HasFaultAt limits.now T.reading (known (R.remaining reader.old)) r.error r.at)) }
     ensures memory { IfErr result (λ r. r.error ≡ Memory → T.reading.takes_memory ≡ true) }
     ensures limited { IfErr result (λ r. r.error ≡ Limit → IsGreatest limits.now → ⊥) }
     ensures failed { IfErr result (λ r. IsReadError r.error → R.failed reader.new ≡ true) }
@@ -128,6 +131,9 @@ fn read_placed<T: Deserialize, R: ByteSource>(
     ensures refused { Tells R.remaining → IfErr result.0 (λ e. ((T.reading.takes_memory ≡ true) × (e ≡ Memory))
         ⊎ ((IsReadError e × (R.failed reader.new ≡ true))
         ⊎ IsUnreadableWithin limits.now T.reading (known (R.remaining reader.old)) e)) }
+    ensures place { Tells R.remaining → IfErr result.0 (λ e. ((T.reading.takes_memory ≡ true) × (e ≡ Memory))
+        ⊎ ((IsReadError e × (R.failed reader.new ≡ true))
+        ⊎ HasFaultAt limits.now T.reading (known (R.remaining reader.old)) e result.1)) }
     ensures memory { IfErr result.0 (λ e. e ≡ Memory → T.reading.takes_memory ≡ true) }
     ensures limited { IfErr result.0 (λ e. e ≡ Limit → IsGreatest limits.now → ⊥) }
     ensures failed { IfErr result.0 (λ e. IsReadError e → R.failed reader.new ≡ true) }
@@ -244,6 +250,9 @@ fn read_named<T: Deserialize, S: ByteSource, N: Name>(
     ensures refused { Tells S.remaining → IfErr result.0 (λ e. ((T.reading.takes_memory ≡ true) × (e ≡ Memory))
         ⊎ ((IsReadError e × (S.failed result.2 ≡ true))
         ⊎ IsUnreadableWithin limits.now T.reading (known (S.remaining source)) e)) }
+    ensures place { Tells S.remaining → IfErr result.0 (λ e. ((T.reading.takes_memory ≡ true) × (e ≡ Memory))
+        ⊎ ((IsReadError e × (S.failed result.2 ≡ true))
+        ⊎ HasFaultAt limits.now T.reading (known (S.remaining source)) e result.1)) }
     ensures memory { IfErr result.0 (λ e. e ≡ Memory → T.reading.takes_memory ≡ true) }
     ensures limited { IfErr result.0 (λ e. e ≡ Limit → IsGreatest limits.now → ⊥) }
     ensures failed { IfErr result.0 (λ e. IsReadError e → S.failed result.2 ≡ true) }

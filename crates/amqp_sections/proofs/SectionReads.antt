@@ -9,13 +9,13 @@ use Rattle.amqp_lookahead.specs.Members.{Member, as_name, is_named, name_place}
 use Rattle.amqp_lookahead.proofs.Members.{place_is}
 use Rattle.amqp_decoder.specs.declared.frame.Place.TheVariants.{InDescribed}
 use Rattle.amqp_decoder.specs.State.{State, after_value, weight_at}
-use Rattle.amqp_decoder.specs.Reading.{RefusesRead}
 use Rattle.amqp_decoder.specs.Primitives.{standing, Stands, ReadsValue}
 use Rattle.amqp_decoder.specs.Containers.{ClosesDescribed, EndFault}
-use Rattle.amqp_decoder.specs.Described.{OpensDescribed, OpensOneOf, OneOfFault}
+use Rattle.amqp_decoder.specs.Described.{OpensDescribed, OpensOneOf, one_of_left}
 use Rattle.amqp_decoder.proofs.Descriptions.{described_with_parts, term_described}
 use Rattle.amqp_decoder.proofs.NothingInside.{opens_described_same}
 use Rattle.amqp_decoder.proofs.OneReading.{stands_same, value_same}
+use Rattle.amqp_decoder.specs.Places.{Located, Here, At, RefusesAt}
 use Rattle.amqp_codec.specs.TermType.{TermType}
 use Rattle.amqp_codec.specs.Wrappers.{Holds}
 use Rattle.amqp_codec.specs.laws.Composite.{only_place, first_place}
@@ -49,7 +49,7 @@ module _ {V T : Type 0} (h : Holds V T) (c : Naming) (u : TermType T) where
   abbrev Reads : State → V → State → Type 0
   Reads = ReadsValue (section_of h c u).means
 
-  abbrev Fault : State → Error → Type 0
+  abbrev Fault : State → Located → Type 0
   Fault = MemberFault (content_of c u)
 
   -- what stands there is opened
@@ -111,9 +111,9 @@ module _ {V T : Type 0} (h : Holds V T) (c : Naming) (u : TermType T) where
       (λ d x z q p m stands moved. inside_so st v b r.bytes d x z bound p m stands moved) r.term r.meant r.stands r.moved
 
   pub begin_refused : (ms : List Member) (st : State) (e : Error) (new : State) → IsOnly c ms
-      → RefusesRead false (OpensOneOf ms) (OneOfFault ms) st e new → RefusesRead u.takes_memory Reads Fault st e new
+      → RefusesAt false (OpensOneOf ms) (At (one_of_left ms)) st e new → RefusesAt u.takes_memory Reads Fault st e new
   begin_refused ms st e new names =
-      refused_first (OpensOneOf ms) (OneOfFault ms) Reads Fault st e new no_memory (no_member names)
+      refused_first (OpensOneOf ms) (At (one_of_left ms)) Reads Fault st e new no_memory (λ _. no_member names)
       (λ none v b r.
       let k = opened st v b r in
       none 0 k.inner (record {
@@ -145,24 +145,24 @@ module _ {V T : Type 0} (h : Holds V T) (c : Naming) (u : TermType T) where
           );
         }
 
-    pub value_refused : (e : Error) (new : State) → RefusesRead u.takes_memory (ReadsValue u.means) u.faults.fault inner e new
-        → RefusesRead u.takes_memory Reads Fault st e new
+    pub value_refused : (e : Error) (new : State) → RefusesAt u.takes_memory (ReadsValue u.means) u.faults.fault inner e new
+        → RefusesAt u.takes_memory Reads Fault st e new
     value_refused e new =
         refused_later (ReadsValue u.means) u.faults.fault Reads Fault st inner e new (λ t. t) (described_sound o.opens)
-        o.opens.begun.going (described_going o.opens) (in_member o.opens (opened_place c ms st i inner names o))
+        o.opens.begun.going (described_going o.opens) (λ _. in_member o.opens (opened_place c ms st i inner names o))
         (λ none v b r.
         let k = inside st v b bound r in
         let s = opens_described_same st k.descriptor o.descriptor k.inner inner k.opens o.opens in
         none (h.get v) k.last (subst (λ (x : State). ReadsValue u.means x (h.get v) k.last) s.1 k.read))
 
     pub end_refused : (w : T) (last : State) (e : Error) (new : State) → ReadsValue u.means inner w last
-        → RefusesRead false (λ st (_ : Unit {0}) b. ClosesDescribed InDescribed st b) (EndFault InDescribed) last e new
-        → RefusesRead u.takes_memory Reads Fault st e new
+        → RefusesAt false (λ st (_ : Unit {0}) b. ClosesDescribed InDescribed st b) (Here (EndFault InDescribed)) last e new
+        → RefusesAt u.takes_memory Reads Fault st e new
     end_refused w last e new r =
-        refused_later (λ st (_ : Unit {0}) b. ClosesDescribed InDescribed st b) (EndFault InDescribed) Reads Fault st last e new no_memory
+        refused_later (λ st (_ : Unit {0}) b. ClosesDescribed InDescribed st b) (Here (EndFault InDescribed)) Reads Fault st last e new no_memory
         (ap (λ (x : State). x.failed) r.moved ∙ described_sound o.opens) o.opens.begun.going
         (ap (λ (x : State). x.error) r.moved ∙ described_going o.opens)
-        (not_ended o.opens (opened_place c ms st i inner names o) r)
+        (λ _. not_ended o.opens (opened_place c ms st i inner names o) r)
         (λ none v b q.
         let k = inside st v b bound q in
         let s = opens_described_same st k.descriptor o.descriptor k.inner inner k.opens o.opens in

@@ -18,6 +18,7 @@ use Rattle.amqp_codec.specs.Members.{Members}
 use Rattle.amqp_codec.specs.OtherSource.{member_faults}
 use Rattle.amqp_codec.specs.Written.{Writing}
 use Rattle.amqp_codec.specs.Agreement.{Agreement, via_writing, via_agreement}
+use Rattle.amqp_codec.specs.laws.Within.{value_shrinks}
 
 -- The descriptor of a section: its code, which takes two bytes at most, and its name.
 pub record Naming : Type 0 where
@@ -61,6 +62,7 @@ content_of c u = record {
   takes_at = λ i. u.takes_memory;
   takes_memory = u.takes_memory;
   takes = λ i h. h;
+  shrinks = λ i. value_shrinks u.means;
   reads_elsewhere = λ s i st v b. value s u.means;
 }
 

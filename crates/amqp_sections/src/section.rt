@@ -2,7 +2,7 @@
 ghost use Rattle.std.specs.Prelude.{◌≡◌, [], ◌∷◌};
 ghost use Rattle.amqp_model.specs.Term.{code, described};
 ghost use Rattle.amqp_wire.specs.Sources.{Tells};
-ghost use Rattle.amqp_decoder.specs.Reading.{AnswersRead};
+ghost use Rattle.amqp_decoder.specs.Places.{AnswersAt};
 ghost use Rattle.amqp_decoder.specs.Primitives.{ReadsValue};
 ghost use Rattle.amqp_decoder.specs.Steps.{Tries};
 ghost use Rattle.amqp_codec.specs.Written.{WritesTerms, canon_of};
@@ -48,7 +48,7 @@ pub fn read_section<S: Section<T>, T: DeserializeTerm, R: ByteSource>(
     decoder: &mut Decoder<R>,
     alloc: Global,
 ) -> Result<S, Error>
-    ensures read { Tells R.remaining → AnswersRead (section_of S.holds S.naming T.term).takes_memory
+    ensures read { Tells R.remaining → AnswersAt (section_of S.holds S.naming T.term).takes_memory
         (ReadsValue (section_of S.holds S.naming T.term).means) (section_of S.holds S.naming T.term).faults.fault
         decoder.old result decoder.new }
     ensures tries { Tries T.term.takes_memory decoder.old result decoder.new }

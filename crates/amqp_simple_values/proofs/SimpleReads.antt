@@ -1,14 +1,16 @@
 -- A simple value is read: its first code is looked at, and then a value of any kind is read that is no list, map or array.
-use Rattle.std.proofs.Common.{◌≡◌, inr, ℕ, true, false, refl, sym, ap, ◌∙◌, subst}
+use Rattle.std.proofs.Common.{◌≡◌, inr, ℕ, true, false, length, refl, sym, ap, ◌∙◌, subst}
 use Rattle.amqp_model.specs.laws.Item.{clash}
 use Rattle.amqp_wire.specs.declared.error.Error.{Error}
 use Rattle.amqp_wire.specs.declared.error.Error.TheVariants.{InvalidValue}
 use Rattle.amqp_decoder.specs.State.{State}
 use Rattle.amqp_decoder.specs.Steps.{RefusesBy}
-use Rattle.amqp_decoder.specs.Reading.{PeeksCode, RefusesRead}
+use Rattle.amqp_decoder.specs.Reading.{PeeksCode}
 use Rattle.amqp_decoder.specs.Primitives.{standing, ReadsValue}
 use Rattle.amqp_decoder.proofs.Steps.{answered_later, first_kept}
+use Rattle.amqp_decoder.proofs.Places.{before_later}
 use Rattle.amqp_decoder.proofs.Peeks.{value-peeked}
+use Rattle.amqp_decoder.specs.Places.{RefusesAt, StandsHere}
 use Rattle.amqp_codec.specs.TreeType.{tree_term}
 use Rattle.amqp_codec.specs.laws.Refusal.{NoneStands, refused_later}
 use Rattle.amqp_codec.specs.laws.Peek.{peeked_failed, peeked_going}
@@ -73,25 +75,26 @@ module _ (st : State) (c : ℕ) (mid : State) (p : PeeksCode st c mid) where
       clash (sym (ap is_container (kind_read (as_value v) b (any_read st v b h))) ∙ is) (no_container v)
 
   -- a list, a map or an array
-  pub container_refused : is_container_code c ≡ true → (e : Error) (new : State) → RefusesBy InvalidValue mid e new
-      → RefusesRead true Simple simple_faults.fault st e new
-  container_refused is e new refused =
+  pub container_refused : is_container_code c ≡ true → (e : Error) (new : State) → RefusesBy InvalidValue mid e new → StandsHere mid new
+      → RefusesAt true Simple simple_faults.fault st e new
+  container_refused is e new refused here =
       let going = peeked_going st c mid p in
       let invalid = (refused going.1).0 in
       record {
         kept = answered_later (peeked_failed st c mid p) (first_kept {st = mid} going.1 refused);
         again = λ d x. absurd (cc (going.0, x));
-        named = λ _. inr (in_first p is invalid);
+        named = λ _. inr (length mid.rest, in_first p is (invalid, refl),
+            before_later st mid (length mid.rest) new (peeked_failed st c mid p) (here going.1));
         none = inr (none_simple is);
       }
 
   -- what else is no value
   pub value_refused : is_container_code c ≡ false → (e : Error) (new : State)
-      → RefusesRead true AnyValue value_type.faults.fault mid e new → RefusesRead true Simple simple_faults.fault st e new
+      → RefusesAt true AnyValue value_type.faults.fault mid e new → RefusesAt true Simple simple_faults.fault st e new
   value_refused other e new h =
       let going = peeked_going st c mid p in
       refused_later AnyValue value_type.faults.fault Simple simple_faults.fault st mid e new (λ x. x) (peeked_failed st c mid p)
-      going.0 going.1 (in_second p other)
+      going.0 going.1 (λ _. in_second p other)
       (λ nothing v b k. nothing (as_value v) b ((value-peeked ValueMeans st mid b c (as_value v) p).1 (any_read st v b k))) h
 
   -- a simple value

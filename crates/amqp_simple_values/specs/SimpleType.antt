@@ -1,5 +1,5 @@
 -- The type of simple values (Part 3, section 3.2.5).
-use Rattle.std.proofs.Common.{◌≡◌, ℕ, Bool, refl, subst}
+use Rattle.std.proofs.Common.{◌≡◌, ℕ, Bool, length, refl, subst, arith}
 use Rattle.amqp_model.specs.FieldType.{unchanged}
 use Rattle.amqp_wire.specs.declared.error.Error.TheVariants.{InvalidValue}
 use Rattle.amqp_decoder.specs.Misspelled.{IsMisspelling}
@@ -23,10 +23,11 @@ is_container_code c = is_container (kind_at c)
 -- Whatever stands there, it is no simple value.
 abbrev pub never_simple : Faults
 never_simple = record {
-  fault = λ st e. e ≡ InvalidValue;
-  not_outside = λ e out st h. subst IsOutside h out;
+  fault = λ st e. (e.error ≡ InvalidValue) × (e.left ≡ length st.rest);
+  not_outside = λ e out st h. subst IsOutside h.0 out;
   fault_elsewhere = λ c st e keeps h. h;
-  misspelled = λ st e room i h. absurd (subst IsMisspelling h i);
+  misspelled = λ st e room i h. absurd (subst IsMisspelling h.0 i);
+  within = λ st e h. omega (arith, h.1);
 }
 
 -- Why none is read: what begins by a code of a list, a map or an array is none; or what begins by another code is no value.

@@ -1,5 +1,5 @@
 -- A sum of composites is one list of its members (Part 1, section 1.4): its type, how it is read and how it is written.
-use Rattle.std.proofs.Common.{◌≡◌, ◌⊎◌, inl, inr, ℕ, zero, suc, Bool, true, false, ◌&&◌, ◌||◌, List, [], ◌∷◌, refl, sym, ap, subst}
+use Rattle.std.proofs.Common.{◌≡◌, ◌⊎◌, inl, inr, ℕ, zero, suc, Bool, true, false, ◌&&◌, ◌||◌, List, [], ◌∷◌, refl, sym, ap, subst, ◌≤◌, length}
 use Rattle.std.specs.Cmp.{first_so, second_so}
 use Rattle.amqp_model.specs.Term.{Term}
 use Rattle.amqp_model.specs.Standing.{Standing, whole}
@@ -26,6 +26,7 @@ use Rattle.amqp_codec.specs.Written.{AreProper, Writing, IsOneTerm}
 use Rattle.amqp_codec.specs.Agreement.{Agreement, proper}
 use Rattle.amqp_codec.specs.Composite.{Table, table_of, composite}
 use Rattle.amqp_sums.specs.laws.DistinctDescriptor.{differ, composites_apart}
+use Rattle.amqp_codec.specs.laws.FieldPlaces.{fields_shrink}
 
 -- The members of V in their order: the table of each, and the constructor of V that holds it.
 pub data Choices (V : Type 0) : Type 1 where
@@ -144,6 +145,12 @@ choice_elsewhere (member c make cs) s zero st v b h =
     record { member = h.member; is = h.is; read = fields_read s c.fields st h.member b h.read }
 choice_elsewhere (member c make cs) s (suc i) st v b h = choice_elsewhere cs s i st v b h
 
+pub choice_shrinks : {V : Type 0} (cs : Choices V) (i : ℕ) (st : State) (v : V) (b : State) → reads_at cs i st v b
+    → length b.rest ≤ length st.rest
+choice_shrinks no_more i st v b h = absurd h
+choice_shrinks (member c make cs) zero st v b h = fields_shrink c.fields st h.member b h.read
+choice_shrinks (member c make cs) (suc i) st v b h = choice_shrinks cs i st v b h
+
 abbrev pub members_of : {V : Type 0} → Choices V → Members V
 members_of cs = record {
   names = names_of cs;
@@ -152,6 +159,7 @@ members_of cs = record {
   takes_at = takes_at cs;
   takes_memory = takes_one cs;
   takes = takes_there cs;
+  shrinks = choice_shrinks cs;
   reads_elsewhere = choice_elsewhere cs;
 }
 

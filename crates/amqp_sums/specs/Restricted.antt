@@ -1,18 +1,18 @@
 -- Restricted types: each value is one of a primitive type's, a number or a text, and the table of a type says which.
-use Rattle.std.proofs.Common.{◌≡◌, ℕ, Bool, true, false, List, Result, Ok, Err, sym, subst}
+use Rattle.std.proofs.Common.{length, ◌≡◌, ℕ, Bool, true, false, List, Result, Ok, Err, sym, subst, ◌≤◌, arith}
 use Rattle.amqp_model.specs.Term.{Term, leaf}
 use Rattle.amqp_model.specs.Standing.{Standing}
 use Rattle.amqp_wire.specs.declared.error.Error.{Error}
 use Rattle.amqp_wire.specs.declared.error.Error.TheVariants.{UnknownText, UnknownNumber}
 use Rattle.amqp_decoder.specs.State.{State}
 use Rattle.amqp_decoder.specs.Misspelled.{IsMisspelling, NothingStands}
-use Rattle.amqp_decoder.specs.Reading.{AnswersRead}
 use Rattle.amqp_decoder.specs.Primitives.{ReadsValue, Means, PrimitiveFault}
 use Rattle.amqp_decoder.specs.OtherSource.{Setting, under, KeepsError}
 use Rattle.amqp_decoder.specs.laws.OtherSource.{value, primitive_fault}
 use Rattle.amqp_decoder.proofs.NotOutside.{primitive_not_outside}
 use Rattle.amqp_decoder.proofs.Misspelled.{primitive_misspelled}
 use Rattle.amqp_decoder.specs.Steps.{IsOutside}
+use Rattle.amqp_decoder.specs.Places.{Located, Here, AnswersAt}
 use Rattle.amqp_codec.specs.ExactType.{MeansExactly, exact}
 use Rattle.amqp_codec.specs.Faults.{Faults}
 use Rattle.amqp_codec.specs.TermType.{TermType}
@@ -49,27 +49,32 @@ MeansRestricted base table = MeansExactly (λ _. Unit {0}) (λ v. leaf (base.mak
 
 module _ {A V : Type 0} (base : Base A) (unknown : Error) (table : V → A) where
   -- Why no value is read: no primitive of the base stands there, or one that is no value's.
-  pub data RestrictedFault (st : State) (e : Error) : Type 0 where
-    no_primitive : PrimitiveFault base.kind st e → RestrictedFault st e
-    of_no_value : {a : A} {b : State} → ReadsValue (Means base.make) st a b → IsUnknown table a → e ≡ unknown → RestrictedFault st e
+  pub data RestrictedFault (st : State) (e : Located) : Type 0 where
+    no_primitive : Here (PrimitiveFault base.kind) st e → RestrictedFault st e
+    of_no_value : {a : A} {b : State} → ReadsValue (Means base.make) st a b → IsUnknown table a → e.error ≡ unknown
+        → e.left ≡ length st.rest → RestrictedFault st e
 
   -- What a call promises that reads a value.
   abbrev pub ReadsRestricted : (takes_memory : Bool) → State → Result V Error → State → Type 0
-  ReadsRestricted takes_memory = AnswersRead takes_memory (ReadsValue (MeansRestricted base table)) RestrictedFault
+  ReadsRestricted takes_memory = AnswersAt takes_memory (ReadsValue (MeansRestricted base table)) RestrictedFault
 
   module _ (is : IsUnknownError unknown) where
-    pub restricted_not_outside : {e : Error} → IsOutside e → (st : State) → RestrictedFault st e → ⊥
-    restricted_not_outside out st (no_primitive h) = primitive_not_outside out base.kind st h
-    restricted_not_outside out st (of_no_value h none e) = unknown_not_outside unknown is (subst IsOutside e out)
+    pub restricted_not_outside : {e : Located} → IsOutside e.error → (st : State) → RestrictedFault st e → ⊥
+    restricted_not_outside out st (no_primitive h) = primitive_not_outside out base.kind st h.0
+    restricted_not_outside out st (of_no_value h none e place) = unknown_not_outside unknown is (subst IsOutside e out)
 
-    pub restricted_elsewhere : (c : Setting) (st : State) (e : Error) → KeepsError c e → RestrictedFault st e
+    pub restricted_elsewhere : (c : Setting) (st : State) (e : Located) → KeepsError c e.error → RestrictedFault st e
         → RestrictedFault (under c st) e
-    restricted_elsewhere c st e keeps (no_primitive h) = no_primitive (primitive_fault c keeps h)
-    restricted_elsewhere c st e keeps (of_no_value h none i) = of_no_value (value c (Means base.make) h) none i
+    restricted_elsewhere c st e keeps (no_primitive h) = no_primitive (primitive_fault c keeps h.0, h.1)
+    restricted_elsewhere c st e keeps (of_no_value h none i place) = of_no_value (value c (Means base.make) h) none i place
 
-    pub restricted_misspelled : (st : State) (e : Error) → IsMisspelling e → RestrictedFault st e → NothingStands st
-    restricted_misspelled st e i (no_primitive h) = primitive_misspelled base.kind st e i h
-    restricted_misspelled st e i (of_no_value h none j) = absurd (unknown_not_misspelled e (subst IsUnknownError (sym j) is) i)
+    pub restricted_misspelled : (st : State) (e : Located) → IsMisspelling e.error → RestrictedFault st e → NothingStands st
+    restricted_misspelled st e i (no_primitive h) = primitive_misspelled base.kind st e.error i h.0
+    restricted_misspelled st e i (of_no_value h none j place) = absurd (unknown_not_misspelled e.error (subst IsUnknownError (sym j) is) i)
+
+    pub restricted_within : (st : State) (e : Located) → RestrictedFault st e → e.left ≤ length st.rest
+    restricted_within st e (no_primitive h) = omega (arith, h.1)
+    restricted_within st e (of_no_value h none i place) = omega (arith, place)
 
     abbrev pub restricted_faults : Faults
     restricted_faults = record {
@@ -77,6 +82,7 @@ module _ {A V : Type 0} (base : Base A) (unknown : Error) (table : V → A) wher
       not_outside = λ e out. restricted_not_outside out;
       fault_elsewhere = restricted_elsewhere;
       misspelled = λ st e _. restricted_misspelled st e;
+      within = restricted_within;
     }
 
 -- No two values have one number or text.

@@ -3,7 +3,7 @@ ghost use Rattle.std.specs.Prelude.{◌≡◌, ◌∷◌, [], IfErr, IfOk, false
 ghost use Rattle.amqp_model.specs.Term.{leaf};
 ghost use Rattle.amqp_wire.specs.declared.error.Error.TheVariants.{Memory, UnknownNumber, UnknownText};
 ghost use Rattle.amqp_wire.specs.Sources.{Tells};
-ghost use Rattle.amqp_decoder.specs.Reading.{AnswersRead};
+ghost use Rattle.amqp_decoder.specs.Places.{AnswersAt, Here};
 ghost use Rattle.amqp_decoder.specs.Primitives.{ReadsValue, Means, PrimitiveFault};
 ghost use Rattle.amqp_decoder.specs.Steps.{Tries};
 ghost use Rattle.amqp_codec.specs.Written.{WritesTerms};
@@ -23,7 +23,7 @@ pub trait Base: Sized + Drop {
 
     /// Reads a number.
     fn read<R: ByteSource>(decoder: &mut Decoder<R>) -> Result<Self, Error>
-        ensures read { Tells R.remaining → AnswersRead false (ReadsValue (Means base.make)) (PrimitiveFault base.kind)
+        ensures read { Tells R.remaining → AnswersAt false (ReadsValue (Means base.make)) (Here (PrimitiveFault base.kind))
             decoder.old result decoder.new }
         ensures tries { Tries false decoder.old result decoder.new };
 

@@ -4,7 +4,7 @@ ghost use Rattle.std.specs.Prelude.{◌≡◌, ◌<◌, length, map};
 ghost use Rattle.amqp_model.specs.Items.{is_null};
 ghost use Rattle.amqp_wire.specs.Sources.{Tells};
 ghost use Rattle.amqp_lookahead.specs.Members.{as_name};
-ghost use Rattle.amqp_decoder.specs.Reading.{AnswersRead};
+ghost use Rattle.amqp_decoder.specs.Places.{AnswersAt};
 ghost use Rattle.amqp_decoder.specs.Primitives.{ReadsValue};
 ghost use Rattle.amqp_decoder.specs.Steps.{Tries};
 ghost use Rattle.amqp_codec.specs.Composite.{table_with};
@@ -37,7 +37,7 @@ pub trait Sum: Sized + Drop {
         alloc: Global,
     ) -> Result<Self, Error>
         ensures read { place < length (names_of sum.choices) → Tells R.remaining →
-            AnswersRead (takes_at sum.choices place) (reads_at sum.choices place) (faults_at sum.choices place).fault
+            AnswersAt (takes_at sum.choices place) (reads_at sum.choices place) (faults_at sum.choices place).fault
             decoder.old result decoder.new }
         ensures tries { Tries (takes_at sum.choices place) decoder.old result decoder.new };
 }
@@ -45,7 +45,7 @@ pub trait Sum: Sized + Drop {
 /// Reads a sum of composites.
 pub fn read_sum<S: Sum, R: ByteSource>(decoder: &mut Decoder<R>, alloc: Global) -> Result<S, Error>
     ensures read { Tells R.remaining →
-        AnswersRead (sum_of S.sum).takes_memory (ReadsValue (sum_of S.sum).means) (sum_of S.sum).faults.fault
+        AnswersAt (sum_of S.sum).takes_memory (ReadsValue (sum_of S.sum).means) (sum_of S.sum).faults.fault
         decoder.old result decoder.new }
     ensures tries { Tries (sum_of S.sum).takes_memory decoder.old result decoder.new }
 {
@@ -65,7 +65,7 @@ pub fn read_as<C: Composite, S: From<C> + Drop, R: ByteSource>(
     alloc: Global,
 ) -> Result<S, Error>
     ensures read { Tells R.remaining →
-        AnswersRead (take_memory C.list.fields) (ChoiceRead (table_with C.names C.list) S.from_gives) (FieldsFault C.list.fields)
+        AnswersAt (take_memory C.list.fields) (ChoiceRead (table_with C.names C.list) S.from_gives) (FieldsFault C.list.fields)
         decoder.old result decoder.new }
     ensures tries { Tries (take_memory C.list.fields) decoder.old result decoder.new }
 {

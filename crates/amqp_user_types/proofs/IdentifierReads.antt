@@ -8,7 +8,8 @@ use Rattle.amqp_wire.specs.declared.symbol.Symbol.{Symbol}
 use Rattle.amqp_lookahead.specs.Kinds.{kind_of, kind_at, codes_of, ulongs, symbols}
 use Rattle.amqp_lookahead.proofs.KindsOfCodes.{OneOf, kind_data, kind_codes}
 use Rattle.amqp_decoder.specs.State.{State}
-use Rattle.amqp_decoder.specs.Reading.{RefusesRead, PeeksCode}
+use Rattle.amqp_decoder.specs.Places.{RefusesAt}
+use Rattle.amqp_decoder.specs.Reading.{PeeksCode}
 use Rattle.amqp_decoder.specs.Primitives.{ReadsValue, Means}
 use Rattle.amqp_decoder.proofs.ReadPrimitives.{value_leaf, begun_same}
 use Rattle.amqp_decoder.proofs.Peeks.{value-peeked}
@@ -32,7 +33,7 @@ IsIdentifier = ReadsValue identifier_type.means
 
 -- no identifier stands there, and the error names the fault of the member that the first code tells
 abbrev NoIdentifier : State → Error → State → Type 0
-NoIdentifier = RefusesRead true IsIdentifier identifier_type.faults.fault
+NoIdentifier = RefusesAt true IsIdentifier identifier_type.faults.fault
 
 abbrev of_name : Symbol → Primitive
 of_name s = symbol (string_bytes s.0)
@@ -101,15 +102,15 @@ module _ (st : State) (c : ℕ) (mid : State) (p : PeeksCode st c mid) where
   no_name is none (identifier.Name s) b h = none s b ((value-peeked symbol_type.means st mid b c s p).1 (name_of s b h))
 
   pub number_refused : (e : Error) (new : State) → is_number c ≡ true
-      → RefusesRead false IsNumber ulong_type.faults.fault mid e new → NoIdentifier st e new
+      → RefusesAt false IsNumber ulong_type.faults.fault mid e new → NoIdentifier st e new
   number_refused e new is h =
       let going = peeked_going st c mid p in
       refused_later IsNumber ulong_type.faults.fault IsIdentifier _ st mid e new no_memory (peeked_failed st c mid p) going.0 going.1
-      (in_first p is) (no_number is) h
+      (λ _. in_first p is) (no_number is) h
 
   pub name_refused : (e : Error) (new : State) → is_number c ≡ false
-      → RefusesRead true IsName symbol_type.faults.fault mid e new → NoIdentifier st e new
+      → RefusesAt true IsName symbol_type.faults.fault mid e new → NoIdentifier st e new
   name_refused e new is h =
       let going = peeked_going st c mid p in
       refused_later IsName symbol_type.faults.fault IsIdentifier _ st mid e new (λ t. t) (peeked_failed st c mid p) going.0 going.1
-      (in_second p is) (no_name is) h
+      (λ _. in_second p is) (no_name is) h

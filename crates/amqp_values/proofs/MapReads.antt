@@ -4,11 +4,11 @@ use Rattle.amqp_model.specs.Term.{map, Term}
 use Rattle.amqp_model.specs.Standing.{Standing}
 use Rattle.amqp_wire.specs.declared.error.Error.{Error}
 use Rattle.amqp_decoder.specs.State.{State}
-use Rattle.amqp_decoder.specs.Reading.{RefusesRead}
 use Rattle.amqp_decoder.specs.Primitives.{ReadsValue}
 use Rattle.amqp_decoder.specs.Containers.{Opens}
+use Rattle.amqp_decoder.specs.Places.{Located, RefusesAt}
 use Rattle.amqp_codec.specs.laws.Refusal.{refused_first}
-use Rattle.amqp_codec.specs.MapReading.{ReadsPairsRow, ReadsFewer, PairsFault, MapFault, at_key, twice, at_value}
+use Rattle.amqp_codec.specs.MapReading.{ReadsPairsRow, ReadsFewer, PairsFault, MapFault, at_key, twice, told_twice, at_value}
 use Rattle.amqp_kinds.specs.laws.TreeMeanings.{map_means, means_map}
 use Rattle.amqp_values.specs.declared.map.ValueMap.{ValueMap}
 use Rattle.amqp_values.specs.declared.value.Value.{Value, Map as MapOf}
@@ -44,10 +44,10 @@ as_map st m b =
     (λ s t. map_means value_term values_are_trees s t (pairs_of m) (MapOf m) (map_is m)) st b
 
 -- what is refused as its pairs
-pub map_refused : (st : State) (e : Error) (new : State) → RefusesRead true MapPairs (MapFault value_type value_type) st e new
-    → RefusesRead true AnyMap (MapFault value_type value_type) st e new
+pub map_refused : (st : State) (e : Error) (new : State) → RefusesAt true MapPairs (MapFault value_type value_type) st e new
+    → RefusesAt true AnyMap (MapFault value_type value_type) st e new
 map_refused st e new =
-    refused_first MapPairs (MapFault value_type value_type) AnyMap (MapFault value_type value_type) st e new (λ x. x) (λ f. f)
+    refused_first MapPairs (MapFault value_type value_type) AnyMap (MapFault value_type value_type) st e new (λ x. x) (λ _ f. f)
     (λ none m b h. none (pairs_of m) b (as_pairs st m b h))
 
 -- keys and values that hold so many levels of others are any
@@ -56,9 +56,11 @@ module _ (levels : ℕ) (n : ℕ) where
       → ReadsFewer value_type value_type n st ps mid
   fewer_any st ps mid h = record { fewer = h.fewer; each = h.each }
 
-  fault_any : (st : State) (e : Error) → PairsFault (value_in levels) (value_in levels) n st e → PairsFault value_type value_type n st e
+  fault_any : (st : State) (e : Located) → PairsFault (value_in levels) (value_in levels) n st e → PairsFault value_type value_type n st e
   fault_any st e (at_key ps mid h f) = at_key ps mid (fewer_any st ps mid h) (record { levels = suc levels; named = f })
-  fault_any st e (twice ps mid after k h o r known is) = twice ps mid after k (fewer_any st ps mid h) o r known is
+  fault_any st e (twice ps mid after k h o r known is place) = twice ps mid after k (fewer_any st ps mid h) o r known is place
+  fault_any st e (told_twice all b ps mid after k each h o r known is place) =
+      told_twice all b ps mid after k each (fewer_any st ps mid h) o r known is place
   fault_any st e (at_value ps mid after k h r f) =
       at_value ps mid after k (fewer_any st ps mid h) r (record { levels = suc levels; named = f })
 
@@ -71,11 +73,11 @@ module _ (levels : ℕ) (n : ℕ) where
   row_of st ps b h = record { long = h.long; each = h.each; others = h.others }
 
   pub row_refused_any : (st : State) (e : Error) (new : State)
-      → RefusesRead true (ReadsPairsRow (value_in levels) (value_in levels) n) (PairsFault (value_in levels) (value_in levels) n) st e new
-      → RefusesRead true (ReadsPairsRow value_type value_type n) (PairsFault value_type value_type n) st e new
+      → RefusesAt true (ReadsPairsRow (value_in levels) (value_in levels) n) (PairsFault (value_in levels) (value_in levels) n) st e new
+      → RefusesAt true (ReadsPairsRow value_type value_type n) (PairsFault value_type value_type n) st e new
   row_refused_any st e new =
       refused_first (ReadsPairsRow (value_in levels) (value_in levels) n) (PairsFault (value_in levels) (value_in levels) n)
-      (ReadsPairsRow value_type value_type n) (PairsFault value_type value_type n) st e new (λ x. x) (fault_any st e)
+      (ReadsPairsRow value_type value_type n) (PairsFault value_type value_type n) st e new (λ x. x) (fault_any st)
       (λ none ps b h. none ps b (row_of st ps b h))
 
 -- in a map that was opened a level less is left

@@ -7,11 +7,13 @@ use Rattle.amqp_model.specs.laws.Item.{clash}
 use Rattle.amqp_wire.specs.declared.error.Error.{Error}
 use Rattle.amqp_decoder.specs.declared.frame.Place.TheVariants.{InArray}
 use Rattle.amqp_decoder.specs.State.{State, in_container}
-use Rattle.amqp_decoder.specs.Reading.{AnswersRead, RefusesRead, PeeksCode, BeginFault, after_peek}
+use Rattle.amqp_decoder.specs.Reading.{RefusesRead, PeeksCode, BeginFault, after_peek}
 use Rattle.amqp_decoder.specs.Primitives.{ReadsValue}
 use Rattle.amqp_decoder.specs.Containers.{Opens}
 use Rattle.amqp_decoder.specs.Arrays.{no_items, shared_by, Starts, OpensArray}
 use Rattle.amqp_decoder.specs.Described.{OpensDescribed}
+use Rattle.amqp_decoder.specs.Places.{Located, Here, RefusesAt, AnswersAt, StandsHere}
+use Rattle.amqp_decoder.proofs.Places.{refused_here}
 use Rattle.amqp_codec.specs.Faults.{Faults}
 use Rattle.amqp_codec.specs.TermType.{TermType}
 use Rattle.amqp_codec.specs.laws.Refusal.{refused_first, no_memory}
@@ -46,17 +48,18 @@ bounded_peeked levels st c mid p h =
     omega (arith, h, saved, nesting)
 
 -- no code can be looked at
-pub peek_refused : (f : Kind → Faults) (st : State) (e : Error) (new : State) → RefusesRead false PeeksCode BeginFault st e new
-    → RefusesRead true (ReadsValue ValueMeans) (KindFault f) st e new
-peek_refused f st e new =
-    refused_first PeeksCode BeginFault (ReadsValue ValueMeans) (KindFault f) st e new no_memory no_value (value_peeked ValueMeans st)
+pub peek_refused : (f : Kind → Faults) (st : State) (e : Error) (new : State) → RefusesRead false PeeksCode BeginFault st e new → StandsHere st new
+    → RefusesAt true (ReadsValue ValueMeans) (KindFault f) st e new
+peek_refused f st e new r here =
+    refused_first PeeksCode (Here BeginFault) (ReadsValue ValueMeans) (KindFault f) st e new no_memory (λ _. no_value)
+    (value_peeked ValueMeans st) (refused_here r here)
 
 -- what the reader of a kind answers
 module _ {T : Type 0} (k : Kind) {means : Standing → Term → T → Type 0} {make : T → Value → Type 0}
     (member : IsMember value_term values_are_trees k means make) (takes : Bool) (f : Faults) where
   pub kind_answers : (st : State) (c : ℕ) (mid : State) (r : Result Value Error) (new : State) → PeeksCode st c mid → k ≡ kind_at c
-      → AnswersRead takes (ReadsMember means make) (faults_of f k).fault mid r new
-      → AnswersRead true (ReadsValue ValueMeans) (KindFault (faults_of f)) st r new
+      → AnswersAt takes (ReadsMember means make) (faults_of f k).fault mid r new
+      → AnswersAt true (ReadsValue ValueMeans) (KindFault (faults_of f)) st r new
   kind_answers st c mid r new p is h =
       member_answers value_term values_are_trees (faults_of f) k means make member st c mid p is takes (faults_of f k).fault (λ e x. x)
       r new h
@@ -157,10 +160,10 @@ module _ (key value : TermType Value) where
 
 -- what is refused as what it is made of
 module _ {T : Type 0} {means : Standing → Term → T → Type 0} (make : T → Value → Type 0) where
-  pub as_member : {takes : Bool} (fault : State → Error → Type 0) (st : State) (e : Error) (new : State)
-      → RefusesRead takes (ReadsValue means) fault st e new → RefusesRead takes (ReadsMember means make) fault st e new
+  pub as_member : {takes : Bool} (fault : State → Located → Type 0) (st : State) (e : Error) (new : State)
+      → RefusesAt takes (ReadsValue means) fault st e new → RefusesAt takes (ReadsMember means make) fault st e new
   as_member fault st e new =
-      refused_first (ReadsValue means) fault (ReadsMember means make) fault st e new (λ h. h) (λ f. f) (λ none v b h. none h.0 b h.2)
+      refused_first (ReadsValue means) fault (ReadsMember means make) fault st e new (λ h. h) (λ _ f. f) (λ none v b h. none h.0 b h.2)
 
 -- a key is known, or new
 pub key_new : (k : Value) (ps : List (Value × Value)) (t : Bool) → t ≡ false → t ≡ is_among_keys (value_term k) (turn_terms (drop 0 ps))
@@ -177,12 +180,12 @@ key_known k ps t f e new =
 
 -- a fault of a value that holds so many levels
 pub at_level : (n : ℕ) (st : State) (r : Result Value Error) (new : State)
-    → AnswersRead true (ReadsValue ValueMeans) (faults_at n).fault st r new
-    → AnswersRead true (ReadsValue ValueMeans) (LevelFault faults_at) st r new
+    → AnswersAt true (ReadsValue ValueMeans) (faults_at n).fault st r new
+    → AnswersAt true (ReadsValue ValueMeans) (LevelFault faults_at) st r new
 at_level n st (Ok v) new h = h
 at_level n st (Err e) new h =
     refused_first (ReadsValue ValueMeans) (faults_at n).fault (ReadsValue ValueMeans) (LevelFault faults_at) st e new (λ x. x)
-    (λ f. record { levels = n; named = f }) (λ none. none) h
+    (λ _ f. record { levels = n; named = f }) (λ none. none) h
 
 -- where one level less was left, and nothing else changed
 module _ (levels inner : ℕ) (first after : State) (e : levels ≡ suc inner) (same : after ≡ first) where
@@ -192,26 +195,26 @@ module _ (levels inner : ℕ) (first after : State) (e : levels ≡ suc inner) (
   pub less_bounded : IsBounded inner first → IsBounded inner after
   less_bounded h = subst (IsBounded inner) (sym same) h
 
-  pub less_refused : (x : Error) (new : State) → RefusesRead true (ReadsValue ValueMeans) (faults_at (suc inner)).fault after x new
-      → RefusesRead true (ReadsValue ValueMeans) (faults_at levels).fault first x new
-  less_refused x new = less (λ f st. RefusesRead true (ReadsValue ValueMeans) f.fault st x new)
+  pub less_refused : (x : Error) (new : State) → RefusesAt true (ReadsValue ValueMeans) (faults_at (suc inner)).fault after x new
+      → RefusesAt true (ReadsValue ValueMeans) (faults_at levels).fault first x new
+  less_refused x new = less (λ f st. RefusesAt true (ReadsValue ValueMeans) f.fault st x new)
 
   pub less_read : (v : Value) (b : State) → ReadsValue ValueMeans after v b → ReadsValue ValueMeans first v b
   less_read v b = subst (λ st. ReadsValue ValueMeans st v b) same
 
   pub less_row_refused : (n : ℕ) (x : Error) (new : State)
-      → RefusesRead true (ReadsRow n ValueMeans) (RowFault n ValueMeans (faults_at (suc inner)).fault) after x new
-      → RefusesRead true (ReadsRow n ValueMeans) (RowFault n ValueMeans (faults_at levels).fault) first x new
-  less_row_refused n x new = less (λ f st. RefusesRead true (ReadsRow n ValueMeans) (RowFault n ValueMeans f.fault) st x new)
+      → RefusesAt true (ReadsRow n ValueMeans) (RowFault n ValueMeans (faults_at (suc inner)).fault) after x new
+      → RefusesAt true (ReadsRow n ValueMeans) (RowFault n ValueMeans (faults_at levels).fault) first x new
+  less_row_refused n x new = less (λ f st. RefusesAt true (ReadsRow n ValueMeans) (RowFault n ValueMeans f.fault) st x new)
 
   pub less_row : (n : ℕ) (vs : List Value) (b : State) → ReadsRow n ValueMeans after vs b → ReadsRow n ValueMeans first vs b
   less_row n vs b = subst (λ st. ReadsRow n ValueMeans st vs b) same
 
   pub less_pairs_refused : (n : ℕ) (x : Error) (new : State)
-      → RefusesRead true (ReadsPairsRow (value_in inner) (value_in inner) n) (PairsFault (value_in inner) (value_in inner) n) after x new
-      → (let part = value_with (faults_at levels) in RefusesRead true (ReadsPairsRow part part n) (PairsFault part part n) first x new)
+      → RefusesAt true (ReadsPairsRow (value_in inner) (value_in inner) n) (PairsFault (value_in inner) (value_in inner) n) after x new
+      → (let part = value_with (faults_at levels) in RefusesAt true (ReadsPairsRow part part n) (PairsFault part part n) first x new)
   less_pairs_refused n x new =
-      less (λ f st. RefusesRead true (ReadsPairsRow (value_with f) (value_with f) n) (PairsFault (value_with f) (value_with f) n) st x new)
+      less (λ f st. RefusesAt true (ReadsPairsRow (value_with f) (value_with f) n) (PairsFault (value_with f) (value_with f) n) st x new)
 
   pub less_pairs : (n : ℕ) (ps : List (Value × Value)) (b : State) → ReadsPairsRow (value_in inner) (value_in inner) n after ps b
       → (let part = value_with (faults_at levels) in ReadsPairsRow part part n first ps b)

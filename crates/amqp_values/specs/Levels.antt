@@ -4,7 +4,7 @@ use Rattle.amqp_wire.specs.declared.error.Error.{Error}
 use Rattle.amqp_lookahead.specs.Kinds.{nulls, booleans, ubytes, ushorts, uints, ulongs, bytes, shorts, ints, longs, decimals32, decimals64}
 use Rattle.amqp_lookahead.specs.Kinds.{decimals128, chars, timestamps, uuids, binaries, strings, symbols}
 use Rattle.amqp_decoder.specs.State.{State}
-use Rattle.amqp_decoder.specs.Reading.{RefusesRead}
+use Rattle.amqp_decoder.specs.Places.{Located, RefusesAt}
 use Rattle.amqp_codec.specs.Faults.{Faults, no_faults}
 use Rattle.amqp_codec.specs.TermType.{TermType}
 use Rattle.amqp_codec.specs.TreeType.{tree}
@@ -66,7 +66,7 @@ abbrev pub IsBounded : ℕ → State → Type 0
 IsBounded levels st = st.nesting < levels + length st.saved
 
 -- What a call that reads things one after another answers, into a vector.
-abbrev pub AnswersEach : {A : Type 0} → (State → List A → State → Type 0) → (State → Error → Type 0) → State
+abbrev pub AnswersEach : {A : Type 0} → (State → List A → State → Type 0) → (State → Located → Type 0) → State
     → Result (Vec A Global) Error → State → Type 0
 AnswersEach reads fault old (Ok vs) new = reads old vs.items new
-AnswersEach reads fault old (Err e) new = RefusesRead true reads fault old e new
+AnswersEach reads fault old (Err e) new = RefusesAt true reads fault old e new

@@ -4,7 +4,7 @@ ghost use Rattle.amqp_model.specs.Term.{list, array};
 ghost use Rattle.amqp_wire.specs.declared.error.Error.TheVariants.{Depth};
 ghost use Rattle.amqp_wire.specs.Sources.{Tells};
 ghost use Rattle.amqp_decoder.specs.Primitives.{ReadsValue};
-ghost use Rattle.amqp_decoder.specs.Reading.{AnswersRead};
+ghost use Rattle.amqp_decoder.specs.Places.{AnswersAt};
 ghost use Rattle.amqp_decoder.specs.Steps.{RefusesBy, Passes, Tries};
 ghost use Rattle.amqp_codec.specs.ItemsReading.{ReadsRow, RowFault};
 ghost use Rattle.amqp_codec.specs.MapReading.{ReadsPairsRow, PairsFault};
@@ -46,7 +46,7 @@ fn read_any<R: ByteSource>(
     levels: usize,
     alloc: Global,
 ) -> Result<Value, Error>
-    ensures read { Tells R.remaining → IsBounded levels decoder.old → AnswersRead true (ReadsValue ValueMeans) (faults_at (suc levels)).fault
+    ensures read { Tells R.remaining → IsBounded levels decoder.old → AnswersAt true (ReadsValue ValueMeans) (faults_at (suc levels)).fault
         decoder.old result decoder.new }
     ensures tries { Tries true decoder.old result decoder.new }
 {
@@ -85,7 +85,7 @@ fn read_described<R: ByteSource>(
     levels: usize,
     alloc: Global,
 ) -> Result<Value, Error>
-    ensures read { Tells R.remaining → IsBounded levels decoder.old → AnswersRead true (ReadsMember MeansDescribed IsDescribed)
+    ensures read { Tells R.remaining → IsBounded levels decoder.old → AnswersAt true (ReadsMember MeansDescribed IsDescribed)
         (faults_of (faults_at levels) kind.Described).fault decoder.old result decoder.new }
     ensures tries { Tries true decoder.old result decoder.new }
 {
@@ -107,7 +107,7 @@ fn read_list<R: ByteSource>(
     levels: usize,
     alloc: Global,
 ) -> Result<Value, Error>
-    ensures read { Tells R.remaining → IsBounded levels decoder.old → AnswersRead true (ReadsMember (MeansValues list) (IsOfItems list))
+    ensures read { Tells R.remaining → IsBounded levels decoder.old → AnswersAt true (ReadsMember (MeansValues list) (IsOfItems list))
         (faults_of (faults_at levels) kind.List).fault decoder.old result decoder.new }
     ensures tries { Tries true decoder.old result decoder.new }
 {
@@ -125,7 +125,7 @@ fn read_array<R: ByteSource>(
     levels: usize,
     alloc: Global,
 ) -> Result<Value, Error>
-    ensures read { Tells R.remaining → IsBounded levels decoder.old → AnswersRead true (ReadsMember (MeansValues array) (IsOfItems array))
+    ensures read { Tells R.remaining → IsBounded levels decoder.old → AnswersAt true (ReadsMember (MeansValues array) (IsOfItems array))
         (faults_of (faults_at levels) kind.Array).fault decoder.old result decoder.new }
     ensures tries { Tries true decoder.old result decoder.new }
 {
@@ -143,7 +143,7 @@ fn read_map<R: ByteSource>(
     levels: usize,
     alloc: Global,
 ) -> Result<Value, Error>
-    ensures read { Tells R.remaining → IsBounded levels decoder.old → AnswersRead true (ReadsMember MeansPairs IsOfPairs)
+    ensures read { Tells R.remaining → IsBounded levels decoder.old → AnswersAt true (ReadsMember MeansPairs IsOfPairs)
         (faults_of (faults_at levels) kind.Map).fault decoder.old result decoder.new }
     ensures tries { Tries true decoder.old result decoder.new }
 {

@@ -28,14 +28,14 @@ fn bytes_of(digits: &str) -> Result<Vec<u8>, Box<dyn std::error::Error>> {
 /// Returns the number and the size of the section that the input begins with.
 fn section_at(input: &[u8], limits: &Limits) -> Result<(usize, usize), Error> {
     let last = SECTIONS.len() - 1;
-    for (number, (of, _)) in SECTIONS.iter().enumerate() {
+    for (number, (of, _)) in SECTIONS[..last].iter().enumerate() {
         match read(*of, input, limits) {
             Ok(size) => return Ok((number, size)),
-            Err(error) if error.kind() == ErrorKind::WrongDescriptor && number < last => {}
+            Err(error) if error.kind() == ErrorKind::WrongDescriptor => {}
             Err(error) => return Err(error),
         }
     }
-    unreachable!("the last section returns")
+    Ok((last, read(SECTIONS[last].0, input, limits)?))
 }
 
 fn to_of(properties: &[u8]) -> Result<String, Error> {

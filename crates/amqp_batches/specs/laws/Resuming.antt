@@ -1,9 +1,9 @@
 -- What was read in the midst of an input could have been read at its start, and the other way round.
-use Rattle.std.proofs.Common.{◌≡◌, ℕ, ◌-◌, Bool, true, false, List, ◌++◌, length, drop, Option, None, refl, sym, ap, ap₂, ◌∙◌, subst, arith}
+use Rattle.std.proofs.Common.{◌≡◌, ℕ, ◌-◌, ◌%◌, ◌^◌, Bool, true, false, List, ◌++◌, length, drop, Option, None, refl, sym, ap, ap₂, ◌∙◌, subst, arith}
 use Rattle.std.proofs.Common.{length-append}
 use Rattle.std.proofs.lemmas.List.{length-drop, drop_at}
 use Rattle.amqp_wire.specs.declared.error.Error.{Error}
-use Rattle.amqp_decoder.specs.State.{Course, State, Open, fresh_source}
+use Rattle.amqp_decoder.specs.State.{Course, State, Open, fresh_source, source_in}
 use Rattle.amqp_decoder.specs.OtherSource.{elsewhere}
 use Rattle.amqp_codec.specs.Reading.{Reading, looking, start, greatest, BeginsWith}
 use Rattle.amqp_codec.specs.laws.Reading.{is_read}
@@ -21,22 +21,22 @@ start_unlimited input = (record { error = refl; limit = None; top = refl; saved 
 pub fresh_top : (st : State) → IsFresh st → IsAtTop st
 fresh_top st f = (f.error, ap (λ (o : Open). o.place) f.top, f.saved, f.among)
 
-abbrev course : Bool → Course
-course alone = record { broken = false; alone = alone; free = true }
+abbrev course : List ℕ → Bool → Course
+course rest alone = record { size = length rest % 2 ^ 64; broken = false; alone = alone; free = true }
 
 -- without limits it stands as one at the start of what is left
 restarted : (st : State) → IsFresh st → looking 0 (elsewhere (fresh_source 0 st.rest) false (without_limits st)) ≡ start st.rest
 restarted st f =
-    ap (λ (x : Open). record (start st.rest) { top = record x { left = None }; saved = st.saved; error = st.error; failed = course st.failed.alone }) f.top
-    ∙ ap (λ (x : List Open). record (start st.rest) { saved = x; error = st.error; failed = course st.failed.alone }) f.saved
-    ∙ ap (λ (x : Option Error). record (start st.rest) { error = x; failed = course st.failed.alone }) f.error
-    ∙ ap (λ x. record (start st.rest) { failed = course x }) f.among
+    ap (λ (x : Open). record (start st.rest) { top = record x { left = None }; saved = st.saved; error = st.error; failed = course st.rest st.failed.alone }) f.top
+    ∙ ap (λ (x : List Open). record (start st.rest) { saved = x; error = st.error; failed = course st.rest st.failed.alone }) f.saved
+    ∙ ap (λ (x : Option Error). record (start st.rest) { error = x; failed = course st.rest st.failed.alone }) f.error
+    ∙ ap (λ x. record (start st.rest) { failed = course st.rest x }) f.among
 
 -- and one at the start of these bytes as it does
-resumed : (st : State) (text : List ℕ) → IsUnlimited st → st.rest ≡ text → elsewhere st.source st.failed.broken (looking st.ahead (start text)) ≡ st
+resumed : (st : State) (text : List ℕ) → IsUnlimited st → st.rest ≡ text → elsewhere (source_in st) st.failed.broken (looking st.ahead (start text)) ≡ st
 resumed st text f e =
-    ap (λ t. elsewhere st.source st.failed.broken (looking st.ahead (start t))) (sym e)
-    ∙ ap (λ (z : State). elsewhere st.source st.failed.broken (looking st.ahead z)) (sym (restarted st f.0)) ∙ sym f.1
+    ap (λ t. elsewhere (source_in st) st.failed.broken (looking st.ahead (start t))) (sym e)
+    ∙ ap (λ (z : State). elsewhere (source_in st) st.failed.broken (looking st.ahead z)) (sym (restarted st f.0)) ∙ sym f.1
 
 -- The value was read from some input.
 pub record IsRead {T : Type 0} (r : Reading T) (v : T) : Type 0 where
@@ -72,8 +72,8 @@ module _ {T : Type 0} (r : Reading T) (bound : IsBoundByLimits r) where
   read_here st v text more fresh here h =
       let begun = looking st.ahead (start (text ++ more)) in
       let q = r.looked st.ahead (start (text ++ more)) v h.after h.read in
-      let p = r.reads_elsewhere st.source st.failed.broken begun v (looking q.0 h.after) q.1 in
-      let last : State = elsewhere st.source st.failed.broken (looking q.0 h.after) in
+      let p = r.reads_elsewhere (source_in st) st.failed.broken begun v (looking q.0 h.after) q.1 in
+      let last : State = elsewhere (source_in st) st.failed.broken (looking q.0 h.after) in
       let read : r.reads st v last = subst (λ (z : State). r.reads z v last) (resumed st (text ++ more) fresh here) p in
       let t = r.taken st v last read in
       let all : t.count ≡ length text =

@@ -5,9 +5,11 @@ use Rattle.amqp_wire.specs.declared.error.Error.TheVariants.{InvalidValue}
 use Rattle.amqp_decoder.specs.State.{Source, State}
 use Rattle.amqp_decoder.specs.Steps.{IsOutside}
 use Rattle.amqp_decoder.specs.OtherSource.{elsewhere}
+use Rattle.amqp_decoder.specs.Places.{Located}
 use Rattle.amqp_codec.specs.Reading.{Taken, Stays, looking, AreAlike}
 use Rattle.amqp_batches.specs.laws.State.{stays_self, stays_then, taken_self, taken_then, alike_stays, alike_rest, alike_sym, alike_trans}
 use Rattle.amqp_batches.specs.Walk.{IsAtTop, Walk, Steps, Walked, WalkFault, not_top, in_step, not_made}
+use Rattle.std.proofs.lemmas.List.{length-drop}
 
 -- What some steps leave, of which there may be none.
 pub record LeavesAll (st : State) (before after : ℕ) (b : State) : Type 0 where
@@ -170,16 +172,25 @@ module _ {M V : Type 0} (w : Walk M V) where
     left = ap (elsewhere source failed) h.left;
   }
 
-  pub walk_fault_elsewhere : (source : Source) (failed : Bool) (st : State) (e : Error) → WalkFault w st e
+  pub walk_fault_elsewhere : (source : Source) (failed : Bool) (st : State) (e : Located) → WalkFault w st e
       → WalkFault w (elsewhere source failed st) e
   walk_fault_elsewhere source failed st e (not_top h) = not_top h
   walk_fault_elsewhere source failed st e (in_step n part last mid s a f) =
       in_step n part (elsewhere source failed last) (elsewhere source failed mid) (steps_elsewhere source failed n st w.blank part last s)
       (ap (elsewhere source failed) a) (w.fault_elsewhere source failed mid part e f)
-  walk_fault_elsewhere source failed st e (not_made n part last s d f) =
-      not_made n part (elsewhere source failed last) (steps_elsewhere source failed n st w.blank part last s) d f
+  walk_fault_elsewhere source failed st e (not_made n part last s d f place) =
+      not_made n part (elsewhere source failed last) (steps_elsewhere source failed n st w.blank part last s) d f place
 
-  pub walk_not_outside : (e : Error) → IsOutside e → (st : State) → WalkFault w st e → ⊥
-  walk_not_outside e o st (not_top h) = outside_not_top e o h.1
+  pub walk_within : (st : State) (e : Located) → WalkFault w st e → e.left ≤ length st.rest
+  walk_within st e (not_top h) = omega (arith, h.1)
+  walk_within st e (in_step n part last mid s a f) =
+      let t = (steps_leave n st w.blank part last s).taken in
+      omega (arith, w.within mid part e f, ap length (alike_rest last mid a), ap length t.rest, length-drop t.count st.rest)
+  walk_within st e (not_made n part last s d f place) =
+      let t = (steps_leave n st w.blank part last s).taken in
+      omega (arith, place, ap length t.rest, length-drop t.count st.rest)
+
+  pub walk_not_outside : (e : Located) → IsOutside e.error → (st : State) → WalkFault w st e → ⊥
+  walk_not_outside e o st (not_top h) = outside_not_top e.error o h.0.1
   walk_not_outside e o st (in_step n part last mid s a f) = w.not_outside e o mid part f
-  walk_not_outside e o st (not_made n part last s d f) = w.unfinished_not_outside e o part f
+  walk_not_outside e o st (not_made n part last s d f place) = w.unfinished_not_outside e.error o part f

@@ -1,12 +1,11 @@
 -- Lemmas of values of one type or of another, whose terms have other forms.
-use Rattle.std.proofs.Common.{◌≡◌, ◌⊎◌, inl, inr, ℕ, Bool, true, false, ◌&&◌, List, refl, sym, ap, ◌∙◌, subst}
+use Rattle.std.proofs.Common.{◌≡◌, ◌⊎◌, inl, inr, ℕ, Bool, true, false, ◌&&◌, List, refl, sym, ap, ◌∙◌, subst, ◌≤◌, length, arith}
 use Rattle.std.specs.Cmp.{first_so, second_so}
 use Rattle.amqp_model.specs.Term.{Term}
 use Rattle.amqp_model.specs.Standing.{Standing, whole}
 use Rattle.amqp_model.specs.Text.{form}
 use Rattle.amqp_model.specs.Items.{is_null}
 use Rattle.amqp_model.specs.FieldType.{Norm, normal, unchanged, by_norm}
-use Rattle.amqp_wire.specs.declared.error.Error.{Error}
 use Rattle.amqp_decoder.specs.State.{State}
 use Rattle.amqp_decoder.specs.Reading.{PeeksCode}
 use Rattle.amqp_decoder.specs.Rooms.{HasRoom}
@@ -20,10 +19,12 @@ use Rattle.amqp_decoder.proofs.NotOutside.{begin_not_outside}
 use Rattle.amqp_decoder.proofs.ReadPrimitives.{begun_same, fault_not_begun}
 use Rattle.amqp_model.specs.laws.Item.{clash}
 use Rattle.amqp_decoder.specs.Steps.{IsOutside}
+use Rattle.amqp_decoder.specs.Places.{Located}
 use Rattle.amqp_codec.specs.Faults.{Faults}
 use Rattle.amqp_codec.specs.TermType.{TermType, View, view_of, Agrees, Rewrites, IgnoresStanding, Meant, IsNoShorter}
 use Rattle.amqp_codec.specs.EitherMeaning.{either, IsEither, SameEither, each_normal, norm_either, FormsApart, EitherFault, no_value}
 use Rattle.amqp_codec.specs.EitherMeaning.{in_first, in_second}
+use Rattle.amqp_codec.specs.laws.Within.{peek_keeps}
 
 either_normal : {A B : Type 0} (m : Norm A) (n : Norm B) (v : A ⊎ B) → normal (norm_either m n) v ≡ each_normal m n v
 either_normal unchanged unchanged (inl a) = refl
@@ -128,35 +129,40 @@ module _ {A B : Type 0} (u : TermType A) (w : TermType B) where
   either_least l b t (inr x) = w.least (second_so u.is_least w.is_least l) b t x
 
 module _ (is_first : ℕ → Bool) (f g : Faults) where
-  pub either_not_outside : {e : Error} → IsOutside e → (st : State) → EitherFault is_first f g st e → ⊥
-  either_not_outside out st (no_value h) = begin_not_outside out st h
+  pub either_not_outside : {e : Located} → IsOutside e.error → (st : State) → EitherFault is_first f g st e → ⊥
+  either_not_outside out st (no_value h) = begin_not_outside out st h.0
   either_not_outside {e} out st (in_first {c} {mid} p is h) = f.not_outside e out mid h
   either_not_outside {e} out st (in_second {c} {mid} p is h) = g.not_outside e out mid h
 
-  pub either_elsewhere : (s : Setting) (st : State) (e : Error) → KeepsError s e → EitherFault is_first f g st e
+  pub either_elsewhere : (s : Setting) (st : State) (e : Located) → KeepsError s e.error → EitherFault is_first f g st e
       → EitherFault is_first f g (under s st) e
-  either_elsewhere s st e k (no_value h) = no_value (begin_fault s k h)
+  either_elsewhere s st e k (no_value h) = no_value (begin_fault s k h.0, h.1)
   either_elsewhere s st e k (in_first {c} {mid} p is h) = in_first (peeked s p) is (f.fault_elsewhere s mid e k h)
   either_elsewhere s st e k (in_second {c} {mid} p is h) = in_second (peeked s p) is (g.fault_elsewhere s mid e k h)
 
-  pub either_misspelled : (st : State) (e : Error) → HasRoom st → IsMisspelling e → EitherFault is_first f g st e → NothingStands st
-  either_misspelled st e room i (no_value h) = begin_misspelled st e i h
+  pub either_misspelled : (st : State) (e : Located) → HasRoom st → IsMisspelling e.error → EitherFault is_first f g st e → NothingStands st
+  either_misspelled st e room i (no_value h) = begin_misspelled st e.error i h.0
   either_misspelled st e room i (in_first {c} {mid} p is h) =
       nothing_peeked st c mid p (f.misspelled mid e (room_peeked st c mid p room) i h)
   either_misspelled st e room i (in_second {c} {mid} p is h) =
       nothing_peeked st c mid p (g.misspelled mid e (room_peeked st c mid p room) i h)
 
+  pub either_within : (st : State) (e : Located) → EitherFault is_first f g st e → e.left ≤ length st.rest
+  either_within st e (no_value h) = omega (arith, h.1)
+  either_within st e (in_first {c} {mid} p is h) = omega (arith, f.within mid e h, peek_keeps st c mid p)
+  either_within st e (in_second {c} {mid} p is h) = omega (arith, g.within mid e h, peek_keeps st c mid p)
+
   -- where a code was looked at, a fault is of the type that it tells, and of no other
-  pub first_fault : (st mid : State) (c : ℕ) (e : Error) → PeeksCode st c mid → is_first c ≡ true → EitherFault is_first f g st e
+  pub first_fault : (st mid : State) (c : ℕ) (e : Located) → PeeksCode st c mid → is_first c ≡ true → EitherFault is_first f g st e
       → f.fault mid e
-  first_fault st mid c e p is (no_value h) = absurd (fault_not_begun st e c p.after h p.begun)
+  first_fault st mid c e p is (no_value h) = absurd (fault_not_begun st e.error c p.after h.0 p.begun)
   first_fault st mid c e p is (in_first {c = d} {mid = seen} q k h) = subst (λ (x : State). f.fault x e) (q.kept ∙ sym p.kept) h
   first_fault st mid c e p is (in_second {c = d} {mid = seen} q k h) =
       absurd (clash (ap is_first (sym (begun_same st c d p.after q.after p.begun q.begun).0) ∙ is) k)
 
-  pub second_fault : (st mid : State) (c : ℕ) (e : Error) → PeeksCode st c mid → is_first c ≡ false → EitherFault is_first f g st e
+  pub second_fault : (st mid : State) (c : ℕ) (e : Located) → PeeksCode st c mid → is_first c ≡ false → EitherFault is_first f g st e
       → g.fault mid e
-  second_fault st mid c e p is (no_value h) = absurd (fault_not_begun st e c p.after h p.begun)
+  second_fault st mid c e p is (no_value h) = absurd (fault_not_begun st e.error c p.after h.0 p.begun)
   second_fault st mid c e p is (in_first {c = d} {mid = seen} q k h) =
       absurd (clash k (ap is_first (sym (begun_same st c d p.after q.after p.begun q.begun).0) ∙ is))
   second_fault st mid c e p is (in_second {c = d} {mid = seen} q k h) = subst (λ (x : State). g.fault x e) (q.kept ∙ sym p.kept) h

@@ -12,10 +12,10 @@ use Rattle.amqp_wire.specs.declared.error.Error.{Error}
 use Rattle.amqp_model.specs.declared.tables.FieldRule.TheVariants.{Mandatory, Optional, Default, Multiple, MandatoryMultiple}
 use Rattle.amqp_decoder.specs.declared.frame.Place.TheVariants.{InList}
 use Rattle.amqp_decoder.specs.State.{State}
-use Rattle.amqp_decoder.specs.Reading.{RefusesRead}
 use Rattle.amqp_decoder.specs.Primitives.{ReadsValue}
 use Rattle.amqp_decoder.proofs.NotOutside.{begin_not_outside, open_not_outside, close_not_outside}
 use Rattle.amqp_decoder.specs.Steps.{IsOutside}
+use Rattle.amqp_decoder.specs.Places.{Located, RefusesAt}
 use Rattle.amqp_codec.specs.laws.Refusal.{refused_first}
 use Rattle.amqp_codec.specs.Fields.{Fields, none, field, slots, take_memory}
 use Rattle.amqp_codec.specs.laws.Fields.{either_first, either_second}
@@ -107,15 +107,15 @@ filled_at (field get f fs) (suc n) v w st b l h =
 
 -- why none was
 pub unfilled_at : {V : Type 0} (fs : Fields V) (n : ℕ) (v w : V) (st : State) (e : Error) (b : State) → n < length (rules_of (slots fs))
-    → FillsField fs n v w st (Err e) b → RefusesRead (take_memory fs) (ReadsValue (MeansAt fs n)) (FaultAt fs n) st e b
+    → FillsField fs n v w st (Err e) b → RefusesAt (take_memory fs) (ReadsValue (MeansAt fs n)) (FaultAt fs n) st e b
 unfilled_at none n v w st e b l h = absurd (omega arith)
 unfilled_at (field get f fs) zero v w st e b l h =
     refused_first (ReadsValue f.reads) f.faults.fault (ReadsValue (MeansAt (field get f fs) zero)) (FaultAt (field get f fs) zero) st e b
-    (either_first f.takes_memory (take_memory fs)) (λ x. x)
+    (either_first f.takes_memory (take_memory fs)) (λ _ x. x)
     (λ none x c r. none (get x) c (record { bytes = r.bytes; term = r.term; stands = r.stands; moved = r.moved; meant = r.meant })) h.0
 unfilled_at (field get f fs) (suc n) v w st e b l h =
     refused_first (ReadsValue (MeansAt fs n)) (FaultAt fs n) (ReadsValue (MeansAt (field get f fs) (suc n)))
-    (FaultAt (field get f fs) (suc n)) st e b (either_second f.takes_memory (take_memory fs)) (λ x. x)
+    (FaultAt (field get f fs) (suc n)) st e b (either_second f.takes_memory (take_memory fs)) (λ _ x. x)
     (λ none x c r. none x c (record { bytes = r.bytes; term = r.term; stands = r.stands; moved = r.moved; meant = r.meant }))
     (unfilled_at fs n v w st e b (omega arith) h.1)
 
@@ -134,7 +134,7 @@ not_absent Default h = refl
 not_absent Multiple h = refl
 
 -- No fault of a field is want of memory.
-fault_at_not_outside : (e : Error) → IsOutside e → {V : Type 0} (fs : Fields V) (i : ℕ) (st : State) → FaultAt fs i st e → ⊥
+fault_at_not_outside : (e : Located) → IsOutside e.error → {V : Type 0} (fs : Fields V) (i : ℕ) (st : State) → FaultAt fs i st e → ⊥
 fault_at_not_outside e out none i st f = f
 fault_at_not_outside e out (field get f fs) zero st x = f.faults.not_outside e out st x
 fault_at_not_outside e out (field get f fs) (suc i) st x = fault_at_not_outside e out fs i st x
@@ -146,13 +146,13 @@ absence_not_outside out Optional h = cc
 absence_not_outside out Default h = cc
 absence_not_outside out Multiple h = cc
 
-item_not_outside : {e : Error} → IsOutside e → {V : Type 0} (fs : Fields V) (i : ℕ) (st : State) → ItemFault fs i st e → ⊥
-item_not_outside out fs i st (no_item f) = begin_not_outside out st f
-item_not_outside out fs i st (null_item h is) = absence_not_outside out (rule_at fs i) is
+item_not_outside : {e : Located} → IsOutside e.error → {V : Type 0} (fs : Fields V) (i : ℕ) (st : State) → ItemFault fs i st e → ⊥
+item_not_outside out fs i st (no_item f) = begin_not_outside out st f.0
+item_not_outside out fs i st (null_item h is place) = absence_not_outside out (rule_at fs i) is
 item_not_outside {e} out fs i st (in_item {c} {mid} p n f) = fault_at_not_outside e out fs i mid f
 
-pub fields_not_outside : {e : Error} → IsOutside e → {V : Type 0} (fs : Fields V) (st : State) → FieldsFault fs st e → ⊥
-fields_not_outside out fs st (no_list f) = open_not_outside out list st f
+pub fields_not_outside : {e : Located} → IsOutside e.error → {V : Type 0} (fs : Fields V) (st : State) → FieldsFault fs st e → ⊥
+fields_not_outside out fs st (no_list f) = open_not_outside out list st f.0
 fields_not_outside out fs st (at_item {n} {i} {v} {mid} h l k f) = item_not_outside out fs i mid f
-fields_not_outside out fs st (left_out {n} {i} h l k is) = absence_not_outside out (rule_at fs i) is
-fields_not_outside out fs st (not_ended {n} {v} {mid} h f) = close_not_outside out InList mid f
+fields_not_outside out fs st (left_out {n} {i} h l k is place) = absence_not_outside out (rule_at fs i) is
+fields_not_outside out fs st (not_ended {n} {v} {mid} h f) = close_not_outside out InList mid f.0

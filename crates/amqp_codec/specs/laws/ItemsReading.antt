@@ -1,9 +1,8 @@
 -- The items of a list or an array that are read are those of the term that stands there, and their faults those of that.
-use Rattle.std.proofs.Common.{◌≡◌, ℕ, ◌<◌, suc, false, List, [], ◌∷◌, ◌++◌, length, refl, sym, ap, ◌∙◌, subst, arith}
+use Rattle.std.proofs.Common.{◌≡◌, ℕ, ◌<◌, suc, false, List, [], ◌∷◌, ◌++◌, length, refl, sym, ap, ◌∙◌, subst, arith, ◌≤◌}
 use Rattle.amqp_model.specs.Term.{Term, Terms, container, none, more, count}
 use Rattle.amqp_model.specs.Items.{items_of}
 use Rattle.amqp_model.specs.Standing.{Standing, Parts}
-use Rattle.amqp_wire.specs.declared.error.Error.{Error}
 use Rattle.amqp_decoder.specs.State.{State, after_value, weight_at}
 use Rattle.amqp_decoder.specs.OtherSource.{Setting, under, KeepsError}
 use Rattle.amqp_decoder.specs.laws.OtherSource.{value, close_fault}
@@ -16,12 +15,14 @@ use Rattle.amqp_decoder.proofs.OneReading.{value_same, stands_same}
 use Rattle.amqp_decoder.proofs.NotOutside.{close_not_outside}
 use Rattle.amqp_decoder.proofs.Rooms.{room_row}
 use Rattle.amqp_decoder.specs.Steps.{IsOutside}
+use Rattle.amqp_decoder.specs.Places.{Located}
 use Rattle.amqp_codec.specs.Faults.{Faults}
 use Rattle.amqp_codec.specs.TermType.{TermType}
 use Rattle.amqp_codec.specs.Each.{EachMeans, MeansItems}
 use Rattle.amqp_codec.specs.laws.Each.{values_many}
 use Rattle.amqp_codec.specs.laws.ItemsType.{items_cases, mean_as}
 use Rattle.amqp_codec.specs.ItemsReading.{ReadsEach, ReadsRow, Held, Opening, ItemsRead, ItemsFault, unopened, at_item, unclosed}
+use Rattle.amqp_codec.specs.laws.Within.{each_shrinks}
 
 count_items : (ts : Terms) → length (items_of ts) ≡ count ts
 count_items none = refl
@@ -116,15 +117,15 @@ module _ {T : Type 0} (means : Standing → Term → T → Type 0) where
 
 -- Why the items of a list or an array aren't read.
 module _ {T : Type 0} (o : Opening) (means : Standing → Term → T → Type 0) (f : Faults) where
-  abbrev Fault : State → Error → Type 0
+  abbrev Fault : State → Located → Type 0
   Fault = ItemsFault o means f.fault
 
-  pub items_not_outside : {e : Error} → IsOutside e → (st : State) → Fault st e → ⊥
+  pub items_not_outside : {e : Located} → IsOutside e.error → (st : State) → Fault st e → ⊥
   items_not_outside {e} out st (unopened h) = o.not_outside e out st h
   items_not_outside {e} out st (at_item {n} {first} k h) = f.not_outside e out h.mid h.named
-  items_not_outside out st (unclosed {n} {first} {vs} {last} k h c) = close_not_outside out _ last c
+  items_not_outside out st (unclosed {n} {first} {vs} {last} k h c) = close_not_outside out _ last c.0
 
-  pub items_elsewhere : (c : Setting) (st : State) (e : Error) → KeepsError c e → Fault st e → Fault (under c st) e
+  pub items_elsewhere : (c : Setting) (st : State) (e : Located) → KeepsError c e.error → Fault st e → Fault (under c st) e
   items_elsewhere c st e keeps (unopened h) = unopened (o.fault_elsewhere c st e keeps h)
   items_elsewhere c st e keeps (at_item {n} {first} k h) = at_item (o.opens_elsewhere c st n first k) (record {
     before = h.before;
@@ -134,9 +135,9 @@ module _ {T : Type 0} (o : Opening) (means : Standing → Term → T → Type 0)
     named = f.fault_elsewhere c h.mid e keeps h.named;
   })
   items_elsewhere c st e keeps (unclosed {n} {first} {vs} {last} k h x) =
-      unclosed (o.opens_elsewhere c st n first k) (row_elsewhere means c n first vs last h) (close_fault c keeps x)
+      unclosed (o.opens_elsewhere c st n first k) (row_elsewhere means c n first vs last h) (close_fault c keeps x.0, x.1)
 
-  pub items_misspelled : (st : State) (e : Error) → HasRoom st → IsMisspelling e → Fault st e → NothingStands st
+  pub items_misspelled : (st : State) (e : Located) → HasRoom st → IsMisspelling e.error → Fault st e → NothingStands st
   items_misspelled st e room is (unopened h) = o.misspelled st e room is h
   items_misspelled st e room is (at_item {n} {first} k h) =
       let t = each_taken means first h.before h.mid h.each in
@@ -145,7 +146,14 @@ module _ {T : Type 0} (o : Opening) (means : Standing → Term → T → Type 0)
       (f.misspelled h.mid e (room_row (items_of t.terms) first t.bytes h.mid t.row (o.room_inside st n first k)) is h.named)
   items_misspelled st e room is (unclosed {n} {first} {vs} {last} k h c) =
       let t = each_taken means first vs last h.each in
-      o.nothing_at_end st n first last (items_of t.terms) t.bytes e room k t.row is c
+      o.nothing_at_end st n first last (items_of t.terms) t.bytes e.error room k t.row is c.0
+
+  pub items_within : (st : State) (e : Located) → Fault st e → e.left ≤ length st.rest
+  items_within st e (unopened h) = o.within st e h
+  items_within st e (at_item {n} {first} k h) =
+      omega (arith, f.within h.mid e h.named, each_shrinks means first h.before h.mid h.each, o.shrinks st n first k)
+  items_within st e (unclosed {n} {first} {vs} {last} k h c) =
+      omega (arith, c.1, each_shrinks means first vs last h.each, o.shrinks st n first k)
 
 module _ {T : Type 0} (o : Opening) (u : TermType T) where
   abbrev Meant : Standing → Term → List T → Type 0

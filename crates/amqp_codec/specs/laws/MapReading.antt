@@ -1,10 +1,9 @@
 -- The pairs that are read are those of the map that stands there, and the faults of reading are its.
-use Rattle.std.proofs.Common.{◌≡◌, inl, inr, ◌⊎◌, ℕ, ◌+◌, ◌*◌, ◌<◌, false, ◌&&◌, List, [], ◌∷◌, ◌++◌, length, refl, sym, ap, ◌∙◌}
+use Rattle.std.proofs.Common.{◌≡◌, inl, inr, ◌⊎◌, ℕ, ◌+◌, ◌*◌, ◌<◌, false, ◌&&◌, List, [], ◌∷◌, ◌++◌, length, refl, sym, ap, ◌∙◌, ◌≤◌}
 use Rattle.std.proofs.Common.{subst, arith, length-append}
 use Rattle.amqp_model.specs.Term.{map, Term, Terms, container, count}
 use Rattle.amqp_model.specs.Items.{items_of}
 use Rattle.amqp_model.specs.Standing.{Standing, Parts}
-use Rattle.amqp_wire.specs.declared.error.Error.{Error}
 use Rattle.amqp_decoder.specs.declared.frame.Place.TheVariants.{InMap}
 use Rattle.amqp_decoder.specs.State.{State, after_value, weight_at}
 use Rattle.amqp_decoder.specs.OtherSource.{Setting, under, KeepsError}
@@ -22,6 +21,7 @@ use Rattle.amqp_decoder.proofs.NothingInside.{nothing_in_container, nothing_at_e
 use Rattle.amqp_decoder.proofs.NotOutside.{open_not_outside, close_not_outside}
 use Rattle.amqp_decoder.proofs.Rooms.{room_inside, room_row}
 use Rattle.amqp_decoder.specs.Steps.{IsOutside}
+use Rattle.amqp_decoder.specs.Places.{Located}
 use Rattle.amqp_codec.specs.Faults.{Faults}
 use Rattle.amqp_codec.specs.TermType.{TermType}
 use Rattle.amqp_codec.specs.EitherMeaning.{IsEither}
@@ -32,8 +32,9 @@ use Rattle.amqp_codec.specs.laws.ItemsReading.{each_taken, taken_each, taken_lon
 use Rattle.amqp_codec.specs.Pairs.{in_turn, PairsMean, IsNew, HaveOtherKeys, MeansMap}
 use Rattle.amqp_codec.specs.MapType.{map_type}
 use Rattle.amqp_codec.specs.laws.MapType.{mean_as}
-use Rattle.amqp_codec.specs.MapReading.{Pairs, ReadsFewer, PairsFault, at_key, twice, at_value, MapRead, MapFault}
+use Rattle.amqp_codec.specs.MapReading.{Pairs, ReadsFewer, PairsFault, at_key, twice, told_twice, at_value, MapRead, MapFault}
 use Rattle.amqp_codec.specs.MapReading.{unopened, at_pair, unclosed}
+use Rattle.amqp_codec.specs.laws.Within.{value_shrinks, opens_shrinks}
 
 pub twice_as_many : {K V : Type 0} (ps : List (K × V)) → length (in_turn ps) ≡ 2 * length ps
 twice_as_many [] = refl
@@ -82,41 +83,46 @@ module _ {K V : Type 0} (key : TermType K) (value : TermType V) where
       → ReadsFewer key value n (under c st) ps (under c mid)
   fewer_elsewhere c n st ps mid h = record { fewer = h.fewer; each = pairs_elsewhere c st ps mid h.each }
 
-  row_elsewhere : (c : Setting) (n : ℕ) (st : State) (e : Error) → KeepsError c e → PairsFault key value n st e
+  row_elsewhere : (c : Setting) (n : ℕ) (st : State) (e : Located) → KeepsError c e.error → PairsFault key value n st e
       → PairsFault key value n (under c st) e
   row_elsewhere c n st e keeps (at_key ps mid h f) =
       at_key ps (under c mid) (fewer_elsewhere c n st ps mid h) (key.faults.fault_elsewhere c mid e keeps f)
-  row_elsewhere c n st e keeps (twice ps mid after k h o r same is) =
-      twice ps (under c mid) (under c after) k (fewer_elsewhere c n st ps mid h) o (value_elsewhere c key.means r) same is
+  row_elsewhere c n st e keeps (twice ps mid after k h o r same is place) =
+      twice ps (under c mid) (under c after) k (fewer_elsewhere c n st ps mid h) o (value_elsewhere c key.means r) same is place
+  row_elsewhere c n st e keeps (told_twice all b ps mid after k each h o r same is place) =
+      told_twice all (under c b) ps (under c mid) (under c after) k (pairs_elsewhere c st all b each) (fewer_elsewhere c n st ps mid h) o
+      (value_elsewhere c key.means r) same is place
   row_elsewhere c n st e keeps (at_value ps mid after k h r f) =
       at_value ps (under c mid) (under c after) k (fewer_elsewhere c n st ps mid h) (value_elsewhere c key.means r)
       (value.faults.fault_elsewhere c after e keeps f)
 
-  pub map_elsewhere : (c : Setting) (st : State) (e : Error) → KeepsError c e → MapFault key value st e → MapFault key value (under c st) e
-  map_elsewhere c st e keeps (unopened h) = unopened (open_fault c keeps h)
+  pub map_elsewhere : (c : Setting) (st : State) (e : Located) → KeepsError c e.error → MapFault key value st e → MapFault key value (under c st) e
+  map_elsewhere c st e keeps (unopened h) = unopened (open_fault c keeps h.0, h.1)
   map_elsewhere c st e keeps (at_pair {n} {first} o f) = at_pair (opens c o) (row_elsewhere c n first e keeps f)
   map_elsewhere c st e keeps (unclosed {n} {first} {ps} {last} o r f) =
       unclosed (opens c o) (record { long = r.long; each = pairs_elsewhere c first ps last r.each; others = r.others })
-      (close_fault c keeps f)
+      (close_fault c keeps f.0, f.1)
 
-  row_not_outside : {e : Error} → IsOutside e → (n : ℕ) (st : State) → PairsFault key value n st e → ⊥
+  row_not_outside : {e : Located} → IsOutside e.error → (n : ℕ) (st : State) → PairsFault key value n st e → ⊥
   row_not_outside {e} out n st (at_key ps mid h f) = key.faults.not_outside e out mid f
-  row_not_outside out n st (twice ps mid after k h o r same is) = subst IsOutside is out
+  row_not_outside out n st (twice ps mid after k h o r same is place) = subst IsOutside is out
+  row_not_outside out n st (told_twice all b ps mid after k each h o r same is place) = subst IsOutside is out
   row_not_outside {e} out n st (at_value ps mid after k h r f) = value.faults.not_outside e out after f
 
-  pub map_not_outside : {e : Error} → IsOutside e → (st : State) → MapFault key value st e → ⊥
-  map_not_outside out st (unopened h) = open_not_outside out map st h
+  pub map_not_outside : {e : Located} → IsOutside e.error → (st : State) → MapFault key value st e → ⊥
+  map_not_outside out st (unopened h) = open_not_outside out map st h.0
   map_not_outside out st (at_pair {n} {first} o f) = row_not_outside out n first f
-  map_not_outside out st (unclosed {n} {first} {ps} {last} o r f) = close_not_outside out _ last f
+  map_not_outside out st (unclosed {n} {first} {ps} {last} o r f) = close_not_outside out _ last f.0
 
-  row_misspelled : (st : State) (n : ℕ) (first : State) (e : Error) → IsMisspelling e → Opens map st (2 * n) first
+  row_misspelled : (st : State) (n : ℕ) (first : State) (e : Located) → IsMisspelling e.error → Opens map st (2 * n) first
       → PairsFault key value n first e → NothingStands st
   row_misspelled st n first e is o (at_key ps mid h f) =
       let t = each_taken Turn first (in_turn ps) mid (pairs_in_turn first ps mid h.each) in
       nothing_in_container map tt st (2 * n) first mid (items_of t.terms) t.bytes o t.row
       (omega (arith, h.fewer, taken_long Turn first (in_turn ps) mid t, twice_as_many ps))
       (key.faults.misspelled mid e (room_row (items_of t.terms) first t.bytes mid t.row (room_inside map st (2 * n) first o)) is f)
-  row_misspelled st n first e is o (twice ps mid after k h u r same d) = absurd (subst IsMisspelling d is)
+  row_misspelled st n first e is o (twice ps mid after k h u r same d place) = absurd (subst IsMisspelling d is)
+  row_misspelled st n first e is o (told_twice all b ps mid after k each h u r same d place) = absurd (subst IsMisspelling d is)
   row_misspelled st n first e is o (at_value ps mid after k h r f) =
       let t = each_taken Turn first (in_turn ps ++ inl k ∷ []) after (key_in_turn first ps k mid after h.each r) in
       let one : length (in_turn ps ++ inl k ∷ []) ≡ length (in_turn ps) + 1 = length-append (in_turn ps) (inl k ∷ []) in
@@ -130,12 +136,30 @@ module _ {K V : Type 0} (key : TermType K) (value : TermType V) where
       ))
       (value.faults.misspelled after e (room_row (items_of t.terms) first t.bytes after t.row (room_inside map st (2 * n) first o)) is f)
 
-  pub map_misspelled : (st : State) (e : Error) → HasRoom st → IsMisspelling e → MapFault key value st e → NothingStands st
-  map_misspelled st e room is (unopened h) = open_misspelled map tt st e is h
+  pub map_misspelled : (st : State) (e : Located) → HasRoom st → IsMisspelling e.error → MapFault key value st e → NothingStands st
+  map_misspelled st e room is (unopened h) = open_misspelled map tt st e.error is h.0
   map_misspelled st e room is (at_pair {n} {first} o f) = row_misspelled st n first e is o f
   map_misspelled st e room is (unclosed {n} {first} {ps} {last} o r f) =
       let t = each_taken Turn first (in_turn ps) last (pairs_in_turn first ps last r.each) in
-      nothing_at_end map tt InMap st (2 * n) first last (items_of t.terms) t.bytes e o t.row is f
+      nothing_at_end map tt InMap st (2 * n) first last (items_of t.terms) t.bytes e.error o t.row is f.0
+
+  pairs_shrink : (st : State) (ps : List (K × V)) (b : State) → Pairs key value st ps b → length b.rest ≤ length st.rest
+  pairs_shrink st [] b h = omega (arith, ap (λ (x : State). length x.rest) h)
+  pairs_shrink st (p ∷ ps) b (m, n, h, k, more) =
+      omega (arith, value_shrinks key.means st p.0 m h, value_shrinks value.means m p.1 n k, pairs_shrink n ps b more)
+
+  row_within : (n : ℕ) (st : State) (e : Located) → PairsFault key value n st e → e.left ≤ length st.rest
+  row_within n st e (at_key ps mid h f) = omega (arith, key.faults.within mid e f, pairs_shrink st ps mid h.each)
+  row_within n st e (twice ps mid after k h u r same d place) = omega (arith, place, pairs_shrink st ps mid h.each)
+  row_within n st e (told_twice all b ps mid after k each h u r same d place) = omega (arith, place, pairs_shrink st all b each)
+  row_within n st e (at_value ps mid after k h r f) =
+      omega (arith, value.faults.within after e f, value_shrinks key.means mid k after r, pairs_shrink st ps mid h.each)
+
+  pub map_within : (st : State) (e : Located) → MapFault key value st e → e.left ≤ length st.rest
+  map_within st e (unopened h) = omega (arith, h.1)
+  map_within st e (at_pair {n} {first} o f) = omega (arith, row_within n first e f, opens_shrinks map st (2 * n) first o)
+  map_within st e (unclosed {n} {first} {ps} {last} o r f) =
+      omega (arith, f.1, pairs_shrink first ps last r.each, opens_shrinks map st (2 * n) first o)
 
   abbrev pub map_faults : Faults
   map_faults = record {
@@ -143,6 +167,7 @@ module _ {K V : Type 0} (key : TermType K) (value : TermType V) where
     not_outside = λ e out. map_not_outside out;
     fault_elsewhere = map_elsewhere;
     misspelled = map_misspelled;
+    within = map_within;
   }
 
   -- The type of maps of these keys and values.

@@ -6,11 +6,10 @@ use Rattle.amqp_model.specs.Standing.{Standing}
 use Rattle.amqp_wire.specs.declared.error.Error.{Error}
 use Rattle.amqp_decoder.specs.declared.frame.Place.TheVariants.{InDescribed}
 use Rattle.amqp_decoder.specs.State.{State, after_value, weight_at}
-use Rattle.amqp_decoder.specs.Reading.{RefusesRead}
 use Rattle.amqp_decoder.specs.Primitives.{standing, Stands, ReadsValue}
 use Rattle.amqp_decoder.specs.Containers.{ClosesDescribed, EndFault}
 use Rattle.amqp_lookahead.specs.Members.{Member, as_name, is_named, name_place}
-use Rattle.amqp_decoder.specs.Described.{OpensOneOf, OneOfFault}
+use Rattle.amqp_decoder.specs.Described.{OpensOneOf, one_of_left}
 use Rattle.amqp_decoder.proofs.NothingInside.{opens_described_same}
 use Rattle.amqp_decoder.specs.Items.{Next}
 use Rattle.amqp_decoder.proofs.Descriptions.{described_term, term_described}
@@ -18,13 +17,14 @@ use Rattle.amqp_lookahead.proofs.Members.{place_is}
 use Rattle.amqp_decoder.proofs.OneReading.{next_same}
 use Rattle.amqp_decoder.proofs.NotOutside.{one_of_not_outside, end_not_outside}
 use Rattle.amqp_decoder.specs.Steps.{IsOutside}
+use Rattle.amqp_decoder.specs.Places.{Located, Here, At, RefusesAt}
 use Rattle.amqp_codec.specs.laws.Refusal.{no_memory, described_going, described_sound, refused_first, refused_later}
 use Rattle.amqp_codec.specs.Members.{Members, MemberRead, MemberFault, IsSum, no_member, in_member, not_ended}
 
-pub member_not_outside : {e : Error} → IsOutside e → {V : Type 0} (m : Members V) (st : State) → MemberFault m st e → ⊥
-member_not_outside out m st (no_member {ms} names f) = one_of_not_outside out ms st f
+pub member_not_outside : {e : Located} → IsOutside e.error → {V : Type 0} (m : Members V) (st : State) → MemberFault m st e → ⊥
+member_not_outside out m st (no_member {ms} names f) = one_of_not_outside out ms st f.0
 member_not_outside {e} out m st (in_member {d} {i} {inner} o at f) = (m.faults i).not_outside e out inner f
-member_not_outside out m st (not_ended {d} {i} {inner} {last} {v} o at q f) = end_not_outside out InDescribed last f
+member_not_outside out m st (not_ended {d} {i} {inner} {last} {v} o at q f) = end_not_outside out InDescribed last f.0
 
 one_place : {i j : ℕ} {o p : Option ℕ} → o ≡ p → o ≡ Some i → p ≡ Some j → i ≡ j
 one_place {i} {j} e f g = ap (λ x. Rattle.std.proofs.Common.unwrap_or x i) (sym f ∙ e ∙ g)
@@ -68,9 +68,9 @@ module _ {V : Type 0} (m : Members V) (means : Standing → Term → V → Type 
 
   -- none of the members is opened
   pub unopened : (ms : List Member) (st : State) (e : Error) (new : State) → map as_name ms ≡ m.names
-      → RefusesRead false (OpensOneOf ms) (OneOfFault ms) st e new → RefusesRead m.takes_memory (ReadsValue means) (MemberFault m) st e new
+      → RefusesAt false (OpensOneOf ms) (At (one_of_left ms)) st e new → RefusesAt m.takes_memory (ReadsValue means) (MemberFault m) st e new
   unopened ms st e new names r =
-      refused_first (OpensOneOf ms) (OneOfFault ms) (ReadsValue means) (MemberFault m) st e new no_memory (no_member names)
+      refused_first (OpensOneOf ms) (At (one_of_left ms)) (ReadsValue means) (MemberFault m) st e new no_memory (λ f. no_member names)
       (λ none v b h.
       let k = from_value st v b h in
       none k.place k.inner (record {
@@ -93,13 +93,13 @@ module _ {V : Type 0} (m : Members V) (means : Standing → Term → V → Type 
 
   -- what a member describes isn't read
   pub unread : (ms : List Member) (st : State) (i : ℕ) (inner : State) (e : Error) (new : State) → map as_name ms ≡ m.names
-      → OpensOneOf ms st i inner → RefusesRead (m.takes_at i) (m.reads i) (m.faults i).fault inner e new
-      → RefusesRead m.takes_memory (ReadsValue means) (MemberFault m) st e new
+      → OpensOneOf ms st i inner → RefusesAt (m.takes_at i) (m.reads i) (m.faults i).fault inner e new
+      → RefusesAt m.takes_memory (ReadsValue means) (MemberFault m) st e new
   unread ms st i inner e new names o r =
       let going = opened_going ms st i inner o in
       let at = opened_place ms st i inner names o in
       refused_later (m.reads i) (m.faults i).fault (ReadsValue means) (MemberFault m) st inner e new
-      (m.takes i) (opened_failed ms st i inner o) going.0 going.1 (in_member o.opens at)
+      (m.takes i) (opened_failed ms st i inner o) going.0 going.1 (λ f. in_member o.opens at)
       (λ none v b h.
       let k = from_value st v b h in
       let s = opens_described_same st k.descriptor o.descriptor k.inner inner k.opens o.opens in
@@ -110,15 +110,15 @@ module _ {V : Type 0} (m : Members V) (means : Standing → Term → V → Type 
   -- the described value isn't ended
   pub unended : (ms : List Member) (st : State) (i : ℕ) (inner last : State) (v : V) (e : Error) (new : State) → map as_name ms ≡ m.names
       → OpensOneOf ms st i inner → m.reads i inner v last
-      → RefusesRead false (λ st (_ : Unit {0}) b. ClosesDescribed InDescribed st b) (EndFault InDescribed) last e new
-      → RefusesRead m.takes_memory (ReadsValue means) (MemberFault m) st e new
+      → RefusesAt false (λ st (_ : Unit {0}) b. ClosesDescribed InDescribed st b) (Here (EndFault InDescribed)) last e new
+      → RefusesAt m.takes_memory (ReadsValue means) (MemberFault m) st e new
   unended ms st i inner last v e new names o q r =
       let going = opened_going ms st i inner o in
       let at = opened_place ms st i inner names o in
       let t = sum.to_term i inner v last q in
-      refused_later (λ st (_ : Unit {0}) b. ClosesDescribed InDescribed st b) (EndFault InDescribed) (ReadsValue means) (MemberFault m) st
+      refused_later (λ st (_ : Unit {0}) b. ClosesDescribed InDescribed st b) (Here (EndFault InDescribed)) (ReadsValue means) (MemberFault m) st
       last e new no_memory (ap (λ (x : State). x.failed) t.taken.moved ∙ opened_failed ms st i inner o) going.0
-      (ap (λ (x : State). x.error) t.taken.moved ∙ going.1) (not_ended o.opens at q)
+      (ap (λ (x : State). x.error) t.taken.moved ∙ going.1) (λ f. not_ended o.opens at q)
       (λ none w b h.
       let k = from_value st w b h in
       let s = opens_described_same st k.descriptor o.descriptor k.inner inner k.opens o.opens in

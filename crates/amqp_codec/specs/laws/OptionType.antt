@@ -1,5 +1,5 @@
 -- Lemmas of optional values.
-use Rattle.std.proofs.Common.{inl, inr, ◌≡◌, ℕ, Bool, true, false, List, Option, Some, None, IfSome, refl, sym, ap, ◌∙◌, subst}
+use Rattle.std.proofs.Common.{inl, inr, ◌≡◌, ℕ, Bool, true, false, List, Option, Some, None, IfSome, refl, sym, ap, ◌∙◌, subst, ◌≤◌, length, arith}
 use Rattle.amqp_model.specs.Term.{null, Term, leaf}
 use Rattle.amqp_model.specs.Standing.{Standing, whole}
 use Rattle.amqp_model.specs.Text.{form}
@@ -7,7 +7,6 @@ use Rattle.amqp_model.specs.Items.{is_null}
 use Rattle.amqp_model.specs.laws.Item.{clash}
 use Rattle.amqp_model.specs.FieldType.{Norm, normal, unchanged, by_norm}
 use Rattle.amqp_model.specs.FieldRules.{option_canon, SameOption}
-use Rattle.amqp_wire.specs.declared.error.Error.{Error}
 use Rattle.amqp_decoder.specs.State.{State}
 use Rattle.amqp_decoder.specs.OtherSource.{Setting, under, KeepsError}
 use Rattle.amqp_decoder.specs.laws.OtherSource.{begin_fault, peeked}
@@ -18,25 +17,31 @@ use Rattle.amqp_decoder.proofs.NothingInside.{nothing_peeked}
 use Rattle.amqp_decoder.proofs.Rooms.{room_peeked}
 use Rattle.amqp_decoder.proofs.NotOutside.{begin_not_outside}
 use Rattle.amqp_decoder.specs.Steps.{IsOutside}
+use Rattle.amqp_decoder.specs.Places.{Located}
 use Rattle.amqp_codec.specs.NullsAlike.{nulls_alike}
 use Rattle.amqp_codec.specs.Faults.{Faults}
 use Rattle.amqp_codec.specs.TermType.{TermType, View, view_of, view_in, Agrees, Rewrites, IgnoresStanding, Meant, IsNoShorter}
 use Rattle.amqp_codec.specs.laws.PrimitiveTerm.{reads_leaf}
 use Rattle.amqp_codec.specs.laws.Null.{nulls_alike-null, is_null-nulls_alike, null_form, null_meant, null_least}
 use Rattle.amqp_codec.specs.OptionMeaning.{MeansOption, OptionFault, keep, norm_option, count_option}
+use Rattle.amqp_codec.specs.laws.Within.{peek_keeps}
 
-pub option_not_outside : (e : Error) → IsOutside e → (f : Faults) (st : State) → OptionFault f.fault st e → ⊥
-option_not_outside e out f st (inl h) = begin_not_outside out st h
+pub option_not_outside : (e : Located) → IsOutside e.error → (f : Faults) (st : State) → OptionFault f.fault st e → ⊥
+option_not_outside e out f st (inl h) = begin_not_outside out st h.0
 option_not_outside e out f st (inr (c, mid, p, n, h)) = f.not_outside e out mid h
 
-pub option_elsewhere : (f : Faults) (s : Setting) (st : State) (e : Error) → KeepsError s e → OptionFault f.fault st e
+pub option_elsewhere : (f : Faults) (s : Setting) (st : State) (e : Located) → KeepsError s e.error → OptionFault f.fault st e
     → OptionFault f.fault (under s st) e
-option_elsewhere f s st e k (inl h) = inl (begin_fault s k h)
+option_elsewhere f s st e k (inl h) = inl (begin_fault s k h.0, h.1)
 option_elsewhere f s st e k (inr (c, mid, p, n, h)) = inr (c, under s mid, peeked s p, n, f.fault_elsewhere s mid e k h)
 
-pub option_misspelled : (f : Faults) (st : State) (e : Error) → HasRoom st → IsMisspelling e → OptionFault f.fault st e → NothingStands st
-option_misspelled f st e room i (inl h) = begin_misspelled st e i h
+pub option_misspelled : (f : Faults) (st : State) (e : Located) → HasRoom st → IsMisspelling e.error → OptionFault f.fault st e → NothingStands st
+option_misspelled f st e room i (inl h) = begin_misspelled st e.error i h.0
 option_misspelled f st e room i (inr (c, mid, p, n, h)) = nothing_peeked st c mid p (f.misspelled mid e (room_peeked st c mid p room) i h)
+
+pub option_within : (f : Faults) (st : State) (e : Located) → OptionFault f.fault st e → e.left ≤ length st.rest
+option_within f st e (inl h) = omega (arith, h.1)
+option_within f st e (inr (c, mid, p, n, h)) = omega (arith, f.within mid e h, peek_keeps st c mid p)
 
 none_at : {T : Type 0} (n : Norm T) (b : Bool) (canon : T → Term) → normal (norm_option n b canon) None ≡ None
 none_at unchanged true canon = refl

@@ -1,5 +1,5 @@
 -- Lemmas of what it is to read a value: of the terms of a type, and of a whole input.
-use Rattle.std.proofs.Common.{[], sym, ◌≡◌, inl, inr, ℕ, ◌+◌, ◌≤◌, Bool, true, false, List, length, max, Option, Some, None, ◌⊎◌, refl, ap, ◌∙◌, subst, arith, ◌-◌}
+use Rattle.std.proofs.Common.{sym, ◌≡◌, inl, inr, ℕ, ◌+◌, ◌≤◌, Bool, true, false, List, length, max, Option, Some, None, ◌⊎◌, refl, ap, ◌∙◌, subst, arith, ◌-◌}
 use Rattle.std.proofs.Common.{length-append}
 use Rattle.std.proofs.lemmas.List.{length-drop}
 use Rattle.amqp_model.specs.Term.{Term}
@@ -11,13 +11,14 @@ use Rattle.amqp_wire.specs.declared.error.Error.{Error}
 use Rattle.amqp_wire.specs.declared.error.Error.TheVariants.{Memory, Depth, Limit}
 use Rattle.amqp_wire.specs.declared.limits.Limits.{Limits}
 use Rattle.amqp_wire.specs.Limits.{limit_of}
-use Rattle.amqp_decoder.specs.State.{Open, State, Has, top_level, lower, fresh_source}
+use Rattle.amqp_decoder.specs.State.{Open, State, Has, top_level, lower}
 use Rattle.amqp_decoder.specs.OtherSource.{Setting, under, freed, IsByDepth}
 use Rattle.amqp_decoder.specs.Misspelled.{IsMisspelling}
 use Rattle.amqp_decoder.specs.Primitives.{standing, SpellsAs, ReadsValue}
 use Rattle.amqp_decoder.proofs.OneReading.{value_same}
 use Rattle.amqp_decoder.proofs.NotOutside.{read_is_outside}
 use Rattle.amqp_decoder.specs.Steps.{IsOutside, IsReadError}
+use Rattle.amqp_decoder.specs.Places.{Located}
 use Rattle.amqp_codec.specs.TermType.{TermType}
 use Rattle.amqp_codec.specs.Reading.{Taken, Stays, looking, AreAlike, start_within, start, greatest, IsGreatest, IsUnspelledWithin}
 use Rattle.amqp_codec.specs.Reading.{Reading, BeginsWithin, IsUnreadableWithin, BeginsWith, IsUnreadable}
@@ -125,29 +126,29 @@ free_has None k = tt
 free_has (Some n) k = tt
 
 -- before a decoder that lets values nest as deep as any term does, and have as many bytes
-pub term_unspelled : {T : Type 0} (u : TermType T) (limits : Limits) (input : List ℕ) (e : Error) → IsMisspelling e
-    → u.faults.fault (start_within limits input) e → IsUnspelledWithin limits e input
-term_unspelled u limits input e i f b more t is s bound = by (is_by_depth e) refl
+pub term_unspelled : {T : Type 0} (u : TermType T) (limits : Limits) (input : List ℕ) (e : Located) → IsMisspelling e.error
+    → u.faults.fault (start_within limits input) e → IsUnspelledWithin limits e.error input
+term_unspelled u limits input e i f b more t is s bound = by (is_by_depth e.error) refl
   where
     deeper : Setting
-    deeper = record { source = fresh_source 0 []; deepen = λ n. max n (nest t); grows = λ n. omega arith; free = true; lift = true; course = λ f. f }
+    deeper = record { source = record { name = 0; fault = 0 }; deepen = λ n. max n (nest t); grows = λ n. omega arith; free = true; lift = true; course = λ f. f }
 
-    by : (d : Bool) → is_by_depth e ≡ d → ⊥
+    by : (d : Bool) → is_by_depth e.error ≡ d → ⊥
     by true d =
         u.faults.misspelled (start_within limits input) e (inl (omega arith)) i f b t
         (record {
           going = refl;
           item = tt;
-          room = (bound (by_depth_so e d)).0;
+          room = (bound (by_depth_so e.error d)).0;
           after = more;
           rest = is;
           spelled = s;
-          nested = (let k = (bound (by_depth_so e d)).1 in omega (arith, k));
-          few = (bound (by_depth_so e d)).2;
+          nested = (let k = (bound (by_depth_so e.error d)).1 in omega (arith, k));
+          few = (bound (by_depth_so e.error d)).2;
         })
     by false d =
         u.faults.misspelled (under deeper (start_within limits input)) e (inl (omega arith)) i
-        (u.faults.fault_elsewhere deeper (start_within limits input) e (λ h. absurd (clash (so_by_depth e h) d)) f) b t
+        (u.faults.fault_elsewhere deeper (start_within limits input) e (λ h. absurd (clash (so_by_depth e.error h) d)) f) b t
         (record {
           going = refl;
           item = tt;
@@ -178,14 +179,14 @@ is_read limits r input v b n h e = record { after = b; read = h; left = omega (a
 pub never_failing : {T : Type 0} (limits : Limits) (r : Reading T) (input : List ℕ) (e : Error)
     → ((r.takes_memory ≡ true) × (e ≡ Memory)) ⊎ IsUnreadableWithin limits r input e → IsReadError e → ⊥
 never_failing limits r input e (inl x) read = subst IsReadError x.1 read
-never_failing limits r input e (inr x) read = r.not_outside e (read_is_outside e read) (start_within limits input) x.fault
+never_failing limits r input e (inr x) read = r.not_outside (record { error = e; left = x.left }) (read_is_outside e read) (start_within limits input) x.fault
 
 -- memory is wanted only where it is taken
 pub memory_wanted : {T : Type 0} (limits : Limits) (r : Reading T) (input : List ℕ) (e : Error)
     → ((r.takes_memory ≡ true) × (e ≡ Memory)) ⊎ IsUnreadableWithin limits r input e → e ≡ Memory → r.takes_memory ≡ true
 memory_wanted limits r input e (inl x) is = x.0
 memory_wanted limits r input e (inr x) is =
-    absurd (r.not_outside e (subst IsOutside (sym is) tt) (start_within limits input) x.fault)
+    absurd (r.not_outside (record { error = e; left = x.left }) (subst IsOutside (sym is) tt) (start_within limits input) x.fault)
 
 -- the greatest limits, whatever they are called, are those of a start without any
 same_start : (limits : Limits) (input : List ℕ) → IsGreatest limits → start_within limits input ≡ start input
@@ -204,9 +205,10 @@ greatest_begins limits r input v n g h =
 pub unreadable_greatest : {T : Type 0} (limits : Limits) (r : Reading T) (input : List ℕ) (e : Error) → IsGreatest limits
     → IsUnreadableWithin limits r input e → IsUnreadable r input e
 unreadable_greatest limits r input e g h =
-    let fault = subst (λ st. r.fault st e) (same_start limits input g) h.fault in
+    let fault = subst (λ st. r.fault st (record { error = e; left = h.left })) (same_start limits input g) h.fault in
     record {
+      left = h.left;
       fault = fault;
       none = λ v n k. h.none v n (greatest_begins limits r input v n g k);
-      unspelled = λ one i b more t is s bound. r.misspelled one greatest input e i fault b more t is s (λ deep. (tt, bound deep, tt));
+      unspelled = λ one i b more t is s bound. r.misspelled one greatest input (record { error = e; left = h.left }) i fault b more t is s (λ deep. (tt, bound deep, tt));
     }

@@ -6,11 +6,12 @@ use Rattle.amqp_wire.specs.declared.error.Error.{Error}
 use Rattle.amqp_wire.specs.declared.error.Error.TheVariants.{Memory}
 use Rattle.amqp_decoder.specs.State.{State}
 use Rattle.amqp_decoder.specs.Steps.{IsExcused, RefusesBy}
-use Rattle.amqp_decoder.specs.Reading.{RefusesRead}
 use Rattle.amqp_decoder.specs.Primitives.{ReadsValue}
 use Rattle.amqp_decoder.specs.Containers.{Opens}
 use Rattle.amqp_decoder.specs.Described.{OpensDescribed}
 use Rattle.amqp_decoder.proofs.Steps.{answered_later, first_kept}
+use Rattle.amqp_decoder.specs.Places.{Located, RefusesAt}
+use Rattle.amqp_decoder.proofs.Places.{placed_later}
 
 -- a call that takes memory at most where another does
 pub excused_as : {a b : Bool} (e : Error) (st : State) → (a ≡ true → b ≡ true) → IsExcused a e st → IsExcused b e st
@@ -54,12 +55,12 @@ some_reserved zero n few wanted = absurd (let no : false ≡ true = wanted (omeg
 some_reserved (suc count) n few wanted = omega arith
 
 -- memory was wanted before anything was read
-pub unreserved : {A : Type 0} (reads : State → A → State → Type 0) (fault : State → Error → Type 0) (st : State) (e : Error) (new : State)
+pub unreserved : {A : Type 0} (reads : State → A → State → Type 0) (fault : State → Located → Type 0) (st : State) (e : Error) (new : State)
     → ((v : A) (b : State) → reads st v b → st.error ≡ None) → RefusesBy Memory st e new
-    → ((d : Error) → st.error ≡ Some d → (e ≡ d) × (new ≡ st)) → RefusesRead true reads fault st e new
+    → ((d : Error) → st.error ≡ Some d → (e ≡ d) × (new ≡ st)) → RefusesAt true reads fault st e new
 unreserved {A} reads fault st e new going refused again = by st.error refl
   where
-    by : (o : Option Error) → st.error ≡ o → RefusesRead true reads fault st e new
+    by : (o : Option Error) → st.error ≡ o → RefusesAt true reads fault st e new
     by None none = record {
       kept = first_kept {st = st} none refused;
       again = λ d x. absurd (cc);
@@ -78,25 +79,25 @@ or_else g f (inl x) = inl (g x)
 or_else g f (inr y) = inr (f y)
 
 -- the first call was refused
-pub refused_first : {A B : Type 0} {a b : Bool} (p : State → A → State → Type 0) (f : State → Error → Type 0)
-    (q : State → B → State → Type 0) (g : State → Error → Type 0) (old : State) (e : Error) (new : State)
-    → (a ≡ true → b ≡ true) → (f old e → g old e) → (NoneStands p old → NoneStands q old) → RefusesRead a p f old e new
-    → RefusesRead b q g old e new
+pub refused_first : {A B : Type 0} {a b : Bool} (p : State → A → State → Type 0) (f : State → Located → Type 0)
+    (q : State → B → State → Type 0) (g : State → Located → Type 0) (old : State) (e : Error) (new : State)
+    → (a ≡ true → b ≡ true) → ((x : Located) → f old x → g old x) → (NoneStands p old → NoneStands q old) → RefusesAt a p f old e new
+    → RefusesAt b q g old e new
 refused_first p f q g old e new may named none h = record {
   kept = h.kept;
   again = h.again;
-  named = λ going. or_else (excused_as e new may) named (h.named going);
+  named = λ going. or_else (excused_as e new may) (placed_later old old new refl named) (h.named going);
   none = or_else (excused_as e new may) none h.none;
 }
 
 -- a later call was refused
-pub refused_later : {A B : Type 0} {a b : Bool} (p : State → A → State → Type 0) (f : State → Error → Type 0)
-    (q : State → B → State → Type 0) (g : State → Error → Type 0) (old mid : State) (e : Error) (new : State)
-    → (a ≡ true → b ≡ true) → mid.failed ≡ old.failed → old.error ≡ None → mid.error ≡ None → (f mid e → g old e)
-    → (NoneStands p mid → NoneStands q old) → RefusesRead a p f mid e new → RefusesRead b q g old e new
+pub refused_later : {A B : Type 0} {a b : Bool} (p : State → A → State → Type 0) (f : State → Located → Type 0)
+    (q : State → B → State → Type 0) (g : State → Located → Type 0) (old mid : State) (e : Error) (new : State)
+    → (a ≡ true → b ≡ true) → mid.failed ≡ old.failed → old.error ≡ None → mid.error ≡ None → ((x : Located) → f mid x → g old x)
+    → (NoneStands p mid → NoneStands q old) → RefusesAt a p f mid e new → RefusesAt b q g old e new
 refused_later p f q g old mid e new may sound going still named none h = record {
   kept = answered_later sound h.kept;
   again = λ d x. absurd (cc);
-  named = λ _. or_else (excused_as e new may) named (h.named still);
+  named = λ _. or_else (excused_as e new may) (placed_later old mid new sound named) (h.named still);
   none = or_else (excused_as e new may) none h.none;
 }

@@ -23,17 +23,19 @@ use Rattle.amqp_decoder.specs.Containers.{bytes_left_over, ReadsHeader, HeaderFa
 use Rattle.amqp_decoder.specs.Containers.{no_content, Enters, EnterFault, no_header, odd_count, no_room, too_deep, Opens, OpenFault}
 use Rattle.amqp_decoder.specs.Described as described
 use Rattle.amqp_decoder.specs.Described.{in_described, TakesDescriptor, OpensDescribed, TakesPlace, DescribedFault, other_code, DescriptorFault, no_kind}
-use Rattle.amqp_decoder.specs.Described.{non_ascii, not_open, nameless, OneOfFault, not_described, no_descriptor, no_member}
+use Rattle.amqp_decoder.specs.Described.{non_ascii, not_open, nameless, OneOfFault, not_described, no_descriptor, no_member, open_left, one_of_left}
 use Rattle.amqp_decoder.specs.Arrays as arrays
-use Rattle.amqp_decoder.specs.Arrays.{TakesMarks, TakesConstructor, ConstructorFault, no_mark, too_many, no_known_code, Shares}
-use Rattle.amqp_decoder.specs.Arrays.{no_items, shared_by, SharesFault, no_constructor, zero_width, too_nested, Starts, EntersArray}
-use Rattle.amqp_decoder.specs.Arrays.{EnterArrayFault, no_start, OpensArray, ArrayFault}
+use Rattle.amqp_decoder.specs.Arrays.{TakesMarks, TakesConstructor, no_mark, too_many, no_known_code, Shares}
+use Rattle.amqp_decoder.specs.Arrays.{no_items, shared_by, no_constructor, zero_width, too_nested, Starts, EntersArray}
+use Rattle.amqp_decoder.specs.Arrays.{OpenItemsFault, no_items_opened, no_start, OpensArray, ArrayFault}
+use Rattle.amqp_decoder.specs.Arrays.{constructor_left, shares_left, enter_left, array_left}
 use Rattle.amqp_decoder.specs.Terms as terms
-use Rattle.amqp_decoder.specs.Terms.{LacksAnnounced, NoTerm, wrong_size, wrong_term, SpellingFault, no_term, TakesTerm, TermFault, in_array}
-use Rattle.amqp_decoder.specs.Terms.{misspelled}
+use Rattle.amqp_decoder.specs.Terms.{LacksAnnounced, wrong_size, wrong_term, no_term, TakesTerm, TermFault, in_array}
+use Rattle.amqp_decoder.specs.Terms.{misspelled, term_left, spelling_left, term_fault_left}
+use Rattle.amqp_decoder.specs.Places.{Located, At}
 use Rattle.amqp_lengths.specs.Faults.{inside}
 use Rattle.amqp_lengths.proofs.RefusedBytes.{fault_refuses}
-use Rattle.amqp_lengths.proofs.DeeperFaults.{has_deeper}
+use Rattle.amqp_lengths.proofs.DeeperFaults.{fault_deeper}
 use Rattle.amqp_decoder.specs.OtherSource.{Setting, freed, lifted, under, another, IsByDepth, KeepsError}
 
 -- that as many may begin as there are changes nothing else
@@ -367,15 +369,21 @@ module _ (c : Setting) where
   took_place : {members : List Member} {o : Option ℕ} {st st' : State} → TakesPlace members st o st' → TakesPlace members (at st) o (at st')
   took_place h = record { descriptor = h.descriptor; took = took_descriptor h.took; is = h.is }
 
-  pub one_of_fault : {members : List Member} {st : State} {e : Error} → KeepsError c e → OneOfFault members st e
-      → OneOfFault members (at st) e
-  one_of_fault keeps (not_described h) = not_described (described_fault keeps h)
-  one_of_fault keeps (no_descriptor b s h) = no_descriptor (begun b) s (descriptor_fault keeps h)
-  one_of_fault keeps (no_member b t e) = no_member (begun b) (took_place t) e
+  pub one_of_placed : {members : List Member} {st : State} {f : Located} → KeepsError c f.error → At (one_of_left members) st f
+      → At (one_of_left members) (at st) f
+  one_of_placed keeps (not_described h, is) = (not_described (described_fault keeps h), is)
+  one_of_placed keeps (no_descriptor b s h, is) = (no_descriptor (begun b) s (descriptor_fault keeps h), is)
+  one_of_placed keeps (no_member b t e, is) = (no_member (begun b) (took_place t) e, is)
+
+  pub one_of_fault : {members : List Member} {st : State} {e : Error} → KeepsError c e → OneOfFault members st e → OneOfFault members (at st) e
+  one_of_fault {members} {st} {e} keeps h = (one_of_placed {f = record { error = e; left = one_of_left members st e h }} keeps (h, refl)).0
+
+  pub open_described_placed : {st : State} {f : Located} → KeepsError c f.error → At open_left st f → At open_left (at st) f
+  open_described_placed keeps (not_open h, is) = (not_open (described_fault keeps h), is)
+  open_described_placed keeps (nameless b s h, is) = (nameless (begun b) s (descriptor_fault keeps h), is)
 
   pub open_described_fault : {st : State} {e : Error} → KeepsError c e → described.OpenFault st e → described.OpenFault (at st) e
-  open_described_fault keeps (not_open h) = not_open (described_fault keeps h)
-  open_described_fault keeps (nameless b s h) = nameless (begun b) s (descriptor_fault keeps h)
+  open_described_fault {st} {e} keeps h = (open_described_placed {f = record { error = e; left = open_left st e h }} keeps (h, refl)).0
 
   -- arrays
   took_constructor : {st st' : State} {ds : List Descriptor} {k : ℕ} → TakesConstructor st ds k st' → TakesConstructor (at st) ds k (at st')
@@ -419,30 +427,38 @@ module _ (c : Setting) where
         data_ = enters_array h.data_;
       }
 
-  constructor_fault : {st : State} {e : Error} → KeepsError c e → ConstructorFault st e → ConstructorFault (at st) e
-  constructor_fault keeps (arrays.no_code ds own m marks t l) = arrays.no_code ds own (at m) marks (took t) (lacks keeps l)
-  constructor_fault keeps (no_mark ds m t h) = no_mark ds (at m) (took_marks t) (descriptor_fault keeps h)
-  constructor_fault keeps (too_many ds m t l e) = too_many ds (at m) (took_marks t) l e
-  constructor_fault keeps (no_known_code ds k m t some never e) = no_known_code ds k (at m) (took_marks t) some never e
+  constructor_placed : {st : State} {f : Located} → KeepsError c f.error → At constructor_left st f → At constructor_left (at st) f
+  constructor_placed keeps (arrays.no_code ds own m marks t l, is) = (arrays.no_code ds own (at m) marks (took t) (lacks keeps l), is)
+  constructor_placed keeps (no_mark ds m t h, is) = (no_mark ds (at m) (took_marks t) (descriptor_fault keeps h), is)
+  constructor_placed keeps (too_many ds m t l e, is) = (too_many ds (at m) (took_marks t) l e, is)
+  constructor_placed keeps (no_known_code ds k m t some never e, is) = (no_known_code ds k (at m) (took_marks t) some never e, is)
 
-  shares_fault : {n : ℕ} {st : State} {e : Error} → KeepsError c e → SharesFault n st e → SharesFault n (at st) e
-  shares_fault keeps (no_constructor h) = no_constructor (constructor_fault keeps h)
-  shares_fault keeps (zero_width ds k m some t wide e) = zero_width ds k (at m) some (took_constructor t) wide e
-  shares_fault {st} keeps (too_nested ds k m some t uneven l e) =
-      too_nested ds k (at m) some (took_constructor t) uneven (deeper keeps st l e) (by_bound keeps st.nesting e)
+  shares_placed : {n : ℕ} {st : State} {f : Located} → KeepsError c f.error → At (shares_left n) st f → At (shares_left n) (at st) f
+  shares_placed keeps (no_constructor h, is) = let x = constructor_placed keeps (h, is) in (no_constructor x.0, x.1)
+  shares_placed keeps (zero_width ds k m some t wide e, is) = (zero_width ds k (at m) some (took_constructor t) wide e, is)
+  shares_placed {st} keeps (too_nested ds k m some t uneven l e, is) =
+      (too_nested ds k (at m) some (took_constructor t) uneven (deeper keeps st l e) (by_bound keeps st.nesting e), is)
 
-  enter_array_fault : {w : ℕ} {st : State} {e : Error} → KeepsError c e → EnterArrayFault w st e → EnterArrayFault w (at st) e
-  enter_array_fault keeps (arrays.no_header h) = arrays.no_header (header_fault keeps h)
-  enter_array_fault keeps (arrays.no_room n content m h r) = arrays.no_room n content (at m) (header h) (room_fault keeps r)
-  enter_array_fault {st} keeps (arrays.too_deep n content m h l e) =
+  open_items_fault : {w : ℕ} {st : State} {e : Error} → KeepsError c e → OpenItemsFault w st e → OpenItemsFault w (at st) e
+  open_items_fault keeps (arrays.no_header h) = arrays.no_header (header_fault keeps h)
+  open_items_fault keeps (arrays.no_room n content m h r) = arrays.no_room n content (at m) (header h) (room_fault keeps r)
+  open_items_fault {st} keeps (arrays.too_deep n content m h l e) =
       arrays.too_deep n content (at m) (header h) (deeper keeps st l e) (by_bound keeps st.nesting e)
-  enter_array_fault {e = e} keeps (no_start n content m h l f) =
-      no_start n content (at m) (header h) l (subst (λ x. SharesFault n x e) (opened_in InArray 0 content m) (shares_fault keeps f))
+
+  enter_placed : {own w : ℕ} {st : State} {f : Located} → KeepsError c f.error → At (enter_left own w) st f → At (enter_left own w) (at st) f
+  enter_placed keeps (no_items_opened h, is) = (no_items_opened (open_items_fault keeps h), is)
+  enter_placed {f} keeps (no_start n content m h l g, is) =
+      let x = subst (λ z. At (shares_left n) z f) (opened_in InArray 0 content m) (shares_placed keeps (g, is)) in
+      (no_start n content (at m) (header h) l x.0, x.1)
+
+  pub array_placed : {st : State} {f : Located} → KeepsError c f.error → At array_left st f → At array_left (at st) f
+  array_placed keeps (arrays.not_begun h, is) = (arrays.not_begun (begin_fault keeps h), is)
+  array_placed keeps (arrays.wrong_code k m b n e, is) = (arrays.wrong_code k (at m) (begun b) n e, is)
+  array_placed keeps (arrays.no_data k w m b f h, is) =
+      let x = enter_placed keeps (h, is) in (arrays.no_data k w (at m) (begun b) f x.0, x.1)
 
   pub array_fault : {st : State} {e : Error} → KeepsError c e → ArrayFault st e → ArrayFault (at st) e
-  array_fault keeps (arrays.not_begun h) = arrays.not_begun (begin_fault keeps h)
-  array_fault keeps (arrays.wrong_code k m b n e) = arrays.wrong_code k (at m) (begun b) n e
-  array_fault keeps (arrays.no_data k w m b f h) = arrays.no_data k w (at m) (begun b) f (enter_array_fault keeps h)
+  array_fault {st} {e} keeps h = (array_placed {f = record { error = e; left = array_left st e h }} keeps (h, refl)).0
 
   announced_fault : (F : Format) (st : State) (e : Error) → KeepsError c e → LacksAnnounced F st e → LacksAnnounced F (at st) e
   announced_fault (fixed w v) st e keeps h = data_fault (fixed w v) st e keeps h
@@ -451,35 +467,36 @@ module _ (c : Setting) where
   announced_fault (compound k w) st e keeps (inr (n, mid, l, t, h)) = inr (n, at mid, l, took t, lacks keeps h)
   announced_fault unknown st e keeps h = h
 
-  no_term_deeper : (nesting more : ℕ) (b : List ℕ) (st : State) (e : Error) → nesting ≤ more → KeepsError c e
-      → (IsByDepth e → (nesting ≡ more) × (depth_error st.nesting ≡ depth_error (c.deepen st.nesting)))
-      → NoTerm nesting b st e → NoTerm more b (at st) e
-  no_term_deeper nesting more b st e least keeps same (wrong_size none f s) =
+  no_term_placed : (nesting more : ℕ) (b : List ℕ) (st : State) (f : Located) → nesting ≤ more → KeepsError c f.error
+      → (IsByDepth f.error → (nesting ≡ more) × (depth_error st.nesting ≡ depth_error (c.deepen st.nesting)))
+      → At (term_left nesting b) st f → At (term_left more b) (at st) f
+  no_term_placed nesting more b st f least keeps same (wrong_size none h s, is) =
       let own = depth_error st.nesting in
       let by : IsByDepth own = by_depth (nat_lt st.nesting 128) in
-      let g = has_deeper own (depth_error (c.deepen st.nesting)) (inside_depth (nat_lt st.nesting 128)) nesting more b Size least
-      (λ d. absurd (subst IsByDepth (sym d) by)) f in
-      wrong_size (fault_refuses more b Size g) g (size_error keeps s)
-  no_term_deeper nesting more b st e least keeps same (wrong_term none f other) =
+      let g = fault_deeper own (depth_error (c.deepen st.nesting)) (inside_depth (nat_lt st.nesting 128)) nesting more b Size h.0 least
+      (λ d. absurd (subst IsByDepth (sym d) by)) h.1 in
+      (wrong_size (fault_refuses more b Size (h.0, g)) (h.0, g) (size_error keeps s), is)
+  no_term_placed nesting more b st f least keeps same (wrong_term none h other, is) =
       let own = depth_error st.nesting in
       let by : IsByDepth own = by_depth (nat_lt st.nesting 128) in
-      let g = has_deeper own (depth_error (c.deepen st.nesting)) (inside_depth (nat_lt st.nesting 128)) nesting more b e least
-      (λ d. same (subst IsByDepth (sym d) by)) f in
-      wrong_term (fault_refuses more b e g) g other
+      let g = fault_deeper own (depth_error (c.deepen st.nesting)) (inside_depth (nat_lt st.nesting 128)) nesting more b f.error h.0 least
+      (λ d. same (subst IsByDepth (sym d) by)) h.1 in
+      (wrong_term (fault_refuses more b f.error (h.0, g)) (h.0, g) other, is)
 
-  spelling_fault : {st : State} {e : Error} → KeepsError c e → SpellingFault st e → SpellingFault (at st) e
+  spelling_placed : {st : State} {f : Located} → KeepsError c f.error → At spelling_left st f → At spelling_left (at st) f
   unfolding took_constructor
-  spelling_fault keeps (terms.no_constructor h) = terms.no_constructor (constructor_fault keeps h)
-  spelling_fault {e} keeps (terms.no_data {c = k} {m} t l) = terms.no_data (took_constructor t) (announced_fault (format k) m e keeps l)
-  spelling_fault {st} {e} keeps (no_term {b} {m'} t u h f) =
-      let g = c.grows st.nesting in
+  spelling_placed keeps (terms.no_constructor h, is) = let x = constructor_placed keeps (h, is) in (terms.no_constructor x.0, x.1)
+  spelling_placed {f} keeps (terms.no_data {c = k} {m} t l, is) =
+      (terms.no_data (took_constructor t) (announced_fault (format k) m f.error keeps l), is)
+  spelling_placed {st} {f} keeps (no_term {b} {m'} t u h g, is) =
+      let more = c.grows st.nesting in
       let open_ = length st.saved in
-      let same : IsByDepth e
+      let same : IsByDepth f.error
       → (st.nesting - open_ ≡ c.deepen st.nesting - open_) × (depth_error m'.nesting ≡ depth_error (c.deepen m'.nesting)) =
       λ d. (ap (λ n. n - open_) (sym ((keeps d).0 st.nesting)), ap depth_error (sym ((keeps d).0 m'.nesting))) in
-      no_term (took_constructor t) (took u) h
-      (subst (λ k. NoTerm (c.deepen st.nesting - k) (t.own ++ b) (at m') e) (sym (saved_same st))
-      (no_term_deeper (st.nesting - open_) (c.deepen st.nesting - open_) (t.own ++ b) m' e (omega (arith, g)) keeps same f))
+      let x = subst (λ k. At (term_left (c.deepen st.nesting - k) (t.own ++ b)) (at m') f) (sym (saved_same st))
+      (no_term_placed (st.nesting - open_) (c.deepen st.nesting - open_) (t.own ++ b) m' f (omega (arith, more)) keeps same (g, is)) in
+      (no_term (took_constructor t) (took u) h x.0, x.1)
 
   took_term : {st st' : State} {s : List ℕ} → TakesTerm st s st' → TakesTerm (at st) s (at st')
   took_term {st} {s = s} h = record {
@@ -489,10 +506,13 @@ module _ (c : Setting) where
     moved = ap at h.moved ∙ taken_past (length s) (weight_at st h.term) st;
   }
 
-  pub term_fault : {st : State} {e : Error} → KeepsError c e → TermFault st e → TermFault (at st) e
+  pub term_placed : {st : State} {f : Located} → KeepsError c f.error → At term_fault_left st f → At term_fault_left (at st) f
   unfolding took_term
-  term_fault keeps (terms.missing h is) = terms.missing h is
-  term_fault keeps (in_array h shared is) = in_array h shared is
-  term_fault keeps (misspelled h none f) = misspelled h none (spelling_fault keeps f)
-  term_fault {st} keeps (terms.too_many h full is) =
-      terms.too_many (took_term h) (counted_still keeps is st.quota (weight_at st h.term) full) is
+  term_placed keeps (terms.missing h is, place) = (terms.missing h is, place)
+  term_placed keeps (in_array h shared is, place) = (in_array h shared is, place)
+  term_placed keeps (misspelled h none f, place) = let x = spelling_placed keeps (f, place) in (misspelled h none x.0, x.1)
+  term_placed {st} keeps (terms.too_many h full is, place) =
+      (terms.too_many (took_term h) (counted_still keeps is st.quota (weight_at st h.term) full) is, place)
+
+  pub term_fault : {st : State} {e : Error} → KeepsError c e → TermFault st e → TermFault (at st) e
+  term_fault {st} {e} keeps h = (term_placed {f = record { error = e; left = term_fault_left st e h }} keeps (h, refl)).0

@@ -221,6 +221,7 @@ impl<R: ByteSource> Decoder<R> {
     pub(crate) fn refuse_size_at(&mut self, place: u64) -> Error
         ensures refused { Tells R.remaining → RefusesSize 0 self.old result self.new }
         ensures fails { Fails false self.old result self.new }
+        ensures place { self.new.source.fault ≡ place }
     {
         let error = self.refuse_behind(0);
         self.set_fault(place);

@@ -97,6 +97,7 @@ impl<R: ByteSource> Decoder<R> {
         ensures ok { IfOk result (λ _. Has self.old.quota count × (self.new ≡ record self.old { quota = lower self.old.quota count })) }
         ensures err { IfErr result (λ e. (Has self.old.quota count → ⊥) × (e ≡ Limit) × (self.new ≡ refused_at Limit self.new.source.fault self.old)) }
         ensures goes { Goes false self.old result self.new }
+        ensures place { IfErr result (λ _. self.new.source.fault ≡ start) }
     {
         let counted = self.count_weight(count);
         self.placed(start, counted)
@@ -152,6 +153,7 @@ impl<R: ByteSource> Decoder<R> {
             × (e ≡ Limit)
             × (self.new ≡ refused_at Limit self.new.source.fault self.old)) }
         ensures goes { Goes false self.old result self.new }
+        ensures place { IfErr result (λ _. self.new.source.fault ≡ start) }
     {
         if self.is_unlimited() {
             return Ok(());

@@ -74,6 +74,7 @@ impl<R: ByteSource> Decoder<R> {
         ensures answer { result ≡ depth_error self.old.nesting }
         ensures kept { self.new ≡ refused_at (depth_error self.old.nesting) self.new.source.fault self.old }
         ensures fails { Fails false self.old result self.new }
+        ensures place { self.new.source.fault ≡ place }
     {
         let error = self.depth_error();
         self.stop_at(place, error)
@@ -137,6 +138,7 @@ impl<R: ByteSource> Decoder<R> {
         ensures err { IfErr result (λ e. (is_flat ≡ false) × (e ≡ depth_error self.old.nesting) × (self.old.nesting < length self.old.saved)
             × (self.new ≡ refused_at (depth_error self.old.nesting) self.new.source.fault self.old)) }
         ensures goes { Goes false self.old result self.new }
+        ensures place { IfErr result (λ _. self.new.source.fault ≡ place) }
     {
         if is_flat {
             return Ok(());

@@ -1,9 +1,9 @@
 //! Where in the input a call refuses.
-ghost use Rattle.std.specs.Prelude.{◌≡◌, None, Some, IfErr, false};
+ghost use Rattle.std.specs.Prelude.{◌≡◌, suc, length, None, Some, IfErr, false};
 ghost use Rattle.amqp_wire.specs.Codes.{refusal_of};
 ghost use Rattle.amqp_wire.specs.Sources.{Tells};
 ghost use Rattle.amqp_wire.specs.declared.error.Error.{Error};
-ghost use Rattle.amqp_decoder.specs.Places.{Starts, StandsHere, placed};
+ghost use Rattle.amqp_decoder.specs.Places.{Starts, StandsHere, StandsBefore, placed};
 ghost use Rattle.amqp_decoder.specs.Reading.{AnswersRead, ReadsCode, BeginFault};
 ghost use Rattle.amqp_decoder.specs.Steps.{RefusesBy, Fails, Tries};
 ghost use Rattle.amqp_decoder.specs.State.{IsPlaceOf, refused_at};
@@ -33,6 +33,18 @@ impl<R: ByteSource> Decoder<R> {
         }
     }
 
+    /// Keeps the error as `refuse` does. What is at fault is the byte that was taken last, such as a null.
+    pub fn refuse_before(&mut self, error: Error) -> Error
+        ensures first { RefusesBy error self.old result self.new }
+        ensures again { (kept : Error) → self.old.error ≡ Some kept → (result ≡ kept) × (self.new ≡ self.old) }
+        ensures place { self.old.error ≡ None → StandsBefore (suc (length self.old.rest)) self.old self.new }
+    {
+        match self.error {
+            Some(kept) => kept,
+            None => self.stop_before(error),
+        }
+    }
+
     /// Returns how many bytes of the input are before what is at fault, as a number of 64 bits, and 0 if nothing was refused.
     #[inline]
     pub fn fault(&self) -> u64
@@ -50,6 +62,16 @@ impl<R: ByteSource> Decoder<R> {
         let error = self.stop(error);
         self.set_fault(place);
         error
+    }
+
+    // Keeps the error of a decoder that hasn't refused. What is at fault is the byte that was taken last.
+    pub(crate) fn stop_before(&mut self, error: Error) -> Error
+        ensures answer { result ≡ error }
+        ensures kept { self.new ≡ refused_at error self.new.source.fault self.old }
+        ensures place { StandsBefore (suc (length self.old.rest)) self.old self.new }
+    {
+        let place = self.place().wrapping_sub(1);
+        self.stop_at(place, error)
     }
 
     // What was refused stands there.

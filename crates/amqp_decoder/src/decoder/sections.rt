@@ -8,6 +8,7 @@ ghost use Rattle.amqp_decoder.specs.Sections.{LooksOn};
 ghost use Rattle.amqp_decoder.specs.Steps.{Answers, SourceFailed, Goes, Tries};
 ghost use Rattle.amqp_decoder.specs.Reading.{AnswersRead};
 ghost use Rattle.amqp_decoder.specs.Sections.{IsTop, NotTop, Ends, PeeksSection};
+ghost use Rattle.amqp_decoder.specs.Places.{StandsHere, Here, AnswersAt};
 
 use super::Decoder;
 use crate::frame::Place;
@@ -40,6 +41,7 @@ impl<R: ByteSource> Decoder<R> {
     fn check_top(&mut self) -> Result<(), Error>
         ensures read { AnswersRead false IsTop NotTop self.old result self.new }
         ensures tries { Tries false self.old result self.new }
+        ensures place { IfErr result (λ _. StandsHere self.old self.new) }
     {
         self.check()?;
         if !self.is_top() {
@@ -51,7 +53,7 @@ impl<R: ByteSource> Decoder<R> {
     /// Returns whether the input ends here, at the top level. Nothing is taken. It returns `InvalidValue` in a container, or if the decoder reads
     /// one term alone.
     pub fn at_end(&mut self) -> Result<bool, Error>
-        ensures read { Tells R.remaining → AnswersRead false Ends NotTop self.old result self.new }
+        ensures read { Tells R.remaining → AnswersAt false Ends (Here NotTop) self.old result self.new }
         ensures tries { Tries false self.old result self.new }
     {
         self.check_top()?;
@@ -61,7 +63,7 @@ impl<R: ByteSource> Decoder<R> {
     /// Returns the code of the section that comes next at the top level, if its whole descriptor, in any of its encodings, ends within 64
     /// bytes; otherwise `None`. Nothing is taken, and at most 64 bytes are looked at. It returns `InvalidValue` in a container.
     pub fn peek_section(&mut self) -> Result<Option<u8>, Error>
-        ensures read { Tells R.remaining → AnswersRead false PeeksSection NotTop self.old result self.new }
+        ensures read { Tells R.remaining → AnswersAt false PeeksSection (Here NotTop) self.old result self.new }
         ensures tries { Tries false self.old result self.new }
     {
         self.check_top()?;

@@ -10,6 +10,7 @@ never_faults = record {
   not_outside = λ e out st f. f;
   fault_elsewhere = λ c st e keeps f. f;
   misspelled = λ st e room is f. absurd f;
+  within = λ st e f. absurd f;
 }
 
 abbrev pub never_type : TermType ⊥

@@ -1,5 +1,5 @@
-use Rattle.std.proofs.Common.{refl}
-use Rattle.amqp_read_write.proofs.Rewrites.{unwritten_within}
+use Rattle.std.proofs.Common.{inl, inr, refl}
+use Rattle.amqp_read_write.proofs.Rewrites.{not_written}
 use Rattle.amqp_read_write.proofs.Placed.{placed}
 use Rattle.amqp_c.proofs.rewriting.text_within.Goals as goal
 
@@ -19,4 +19,7 @@ returns-in-Ok-clause-text g c = (
 
 pub returns-clause-refused : goal.returns-clause-refused
 returns-clause-refused g c =
-    unwritten_within g.met.T.Canonical.rewrites c.args.limits.now c.args.input.now _ _ _ c.in_ok-value.ensures.found c.in-Err.ensures.refused
+    elim (not_written g.met.T.Canonical.rewrites c.args.limits.now c.args.input.now _ _ _ c.in_ok-value.ensures.found c.in-Err.ensures.refused) [
+      | inl m ↦ inl m
+      | inr u ↦ inr (inr u)
+    ]

@@ -26,7 +26,8 @@ returns-then-is_known-clause-read g c tells =
     row_refused_in_order key value g.K.Ord.cmp c.args.count _ _ _
     (key_twice key value c.args.count _ _ _ c.in_ok-key.key _ _ _
     (fewer_so_far key value g.K.Ord.cmp c.loop.invariant.pairs c.args.count c.loop-test.true tells) c.loop.invariant.pairs.others
-    (c.in_ok-key.ensures.read tells) (known_to_pairs key value g.K.Ord.cmp c.loop.invariant.pairs c.in_ok-key.key known) c.refuse_at.ensures.first)
+    (c.in_ok-key.ensures.read tells) (known_to_pairs key value g.K.Ord.cmp c.loop.invariant.pairs c.in_ok-key.key known) c.refuse_at.ensures.first
+    c.place-place.result c.refuse_at.ensures.place c.place-place.ensures)
 
 pub returns-in_err-value-clause-read : goal.returns-in_err-value-clause-read
 returns-in_err-value-clause-read g c tells =

@@ -9,6 +9,7 @@ returns-in-Ok-true-clause-read g c tells =
     let taken : TakesNull c.args.decoder.now true c.takes_null.new.decoder =
     subst (λ t. TakesNull c.args.decoder.now t c.takes_null.new.decoder) c.in-Ok-true.field-0-test (c.in-Ok-true.ensures.read tells) in
     null_step g.L.FieldList.list.fields c.args.index _ _ _ _ _ _ c.requires.its_rule taken c.check_absent.ensures.ok c.check_absent.ensures.err
+    c.check_absent.ensures.place
 
 pub returns-in-Ok-false-clause-read : goal.returns-in-Ok-false-clause-read
 returns-in-Ok-false-clause-read g c tells =

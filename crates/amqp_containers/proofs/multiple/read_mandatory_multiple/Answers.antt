@@ -9,5 +9,6 @@ returns-in_err-items-clause-read g c tells =
 
 pub returns-in-None-clause-read : goal.returns-in-None-clause-read
 returns-in-None-clause-read g c tells =
-    none_refused g.T.DeserializeTerm.term _ _ _ _ _ c.in-None.is c.refuse_at.ensures.first
+    none_refused g.T.DeserializeTerm.term _ _ _ _ _ c.in-None.is c.refuse_at.ensures.first c.place-start.result c.refuse_at.ensures.place
+    c.place-start.ensures
     (c.in_ok-items.ensures.read tells)

@@ -9,7 +9,7 @@ returns-in_err-value-clause-read g c tells =
     let u = g.T.DeserializeTerm.term in
     let p = err_from_is_err_and c.from_residual.result c.from_residual.ensures.1 in
     rw (p.1, p.2)
-    (refused_first (ReadsValue u.means) u.faults.fault (ReadsMember u.means g.V.From.from_gives) u.faults.fault _ _ _ (λ h. h) (λ f. f)
+    (refused_first (ReadsValue u.means) u.faults.fault (ReadsMember u.means g.V.From.from_gives) u.faults.fault _ _ _ (λ h. h) (λ _ f. f)
     (λ none v b h. none h.0 b h.2) (c.in_err-value.ensures.read tells))
 
 pub returns-clause-read : goal.returns-clause-read

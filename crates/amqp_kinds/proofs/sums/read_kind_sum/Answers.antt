@@ -7,7 +7,7 @@ use Rattle.amqp_kinds.proofs.sums.read_kind_sum.Goals as goal
 pub returns-in_err-code-clause-read : goal.returns-in_err-code-clause-read
 returns-in_err-code-clause-read g c tells =
     let p = err_from_is_err_and c.from_residual.result c.from_residual.ensures.1 in
-    rw (p.1, p.2) (peek_refused g.S.KindSum.sum _ _ _ (c.in_err-code.ensures.read tells))
+    rw (p.1, p.2) (peek_refused g.S.KindSum.sum _ _ _ (c.in_err-code.ensures.read tells) c.in_err-code.ensures.place)
 
 pub returns-clause-read : goal.returns-clause-read
 returns-clause-read g c tells =

@@ -4,6 +4,7 @@ use Rattle.std.proofs.lemmas.Result.{err_from_is_err_and}
 use Rattle.amqp_codec.proofs.MapSteps.{key_refused, key_twice, value_refused, none_reserved, no_place}
 use Rattle.amqp_maps.proofs.KeyLaws.{absent_new, present_known}
 use Rattle.amqp_decoder.specs.State.{State}
+use Rattle.amqp_decoder.specs.Steps.{unsized}
 use Rattle.amqp_maps.specs.Pairs.{HaveDistinctKeys}
 use Rattle.amqp_maps.proofs.KeysApart.{added_distinct, none_distinct, put_behind}
 use Rattle.amqp_maps.proofs.PairsRead.{none_so_far, fewer_so_far, put_so_far}
@@ -16,7 +17,7 @@ loop-init g c =
     record {
       pairs = none_so_far g.K.DeserializeTerm.term g.V.DeserializeTerm.term c.args.decoder.now c.in-Ok.row.items
           c.reservable_pairs-reserved.new.decoder c.in-Ok.ensures.items kept;
-      passed = ((ap (λ (st : State). st.error) kept, ap (λ (st : State). st.failed) kept), λ d x. kept);
+      passed = ((ap (λ (st : State). st.error) kept, ap (λ (st : State). unsized st.failed) kept), λ d x. kept);
       distinct = subst (HaveDistinctKeys g.K.PartialEq.eq) (sym c.in-Ok.ensures.items) (none_distinct g.row.V.Denot g.K.PartialEq.eq);
     }
 
@@ -40,7 +41,7 @@ returns-in-Err-clause-read g c tells =
           (fewer_so_far key value c.loop.invariant.pairs c.args.count c.loop-test.true tells) c.loop.invariant.pairs.others
           (c.in_ok-key.ensures.read tells)
           (present_known g.met.K.MapKey.is_key c.in_ok-key.key c.loop.row.items known)
-          (rw is at c.refuse_at.ensures.first)
+          (rw is at c.refuse_at.ensures.first) c.place-start.result c.refuse_at.ensures.place c.place-start.ensures
     ]
 
 pub returns-in_err-value-in-Ok-make_room-clause-read : goal.returns-in_err-value-in-Ok-make_room-clause-read

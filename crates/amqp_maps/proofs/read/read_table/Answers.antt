@@ -29,7 +29,7 @@ returns-in-Err-clause-read g c tells =
           (fewer_so_far key value c.loop.invariant.pairs c.args.count c.loop-test.true tells) c.loop.invariant.pairs.others
           (c.in_ok-key.ensures.read tells)
           (present_known g.met.K.MapKey.is_key c.in_ok-key.key c.loop.table.entries known)
-          (rw is at c.refuse_at.ensures.first)
+          (rw is at c.refuse_at.ensures.first) c.place-start.result c.refuse_at.ensures.place c.place-start.ensures
     ]
 
 pub returns-in_err-value-in-Ok-new_place-clause-read : goal.returns-in_err-value-in-Ok-new_place-clause-read

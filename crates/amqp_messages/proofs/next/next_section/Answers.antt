@@ -24,7 +24,7 @@ pub returns-then-further-left-clause-read : goal.returns-then-further-left-claus
 returns-then-further-left-clause-read g c tells =
     misplaced_refused c.args.order c.args.left _ _ _ (c.is_full-full.ensures.open c.if-full.false) c.if-ended.false
     (c.in_ok-ended.ensures.read tells) _ _ (c.in_ok-code.ensures.read tells) c.in-Some.code _ _ c.in-Some.is
-    (subst (λ z. c.args.left ≤ z) c.further.ensures c.if-further-left.true) c.refuse.ensures.first
+    (subst (λ z. c.args.left ≤ z) c.further.ensures c.if-further-left.true) c.refuse.ensures.first c.refuse.ensures.place
 
 pub returns-clause-read : goal.returns-clause-read
 returns-clause-read g c tells =

@@ -71,4 +71,4 @@ returns-in-Err-clause-read g c tells =
     let h = c.loop-groups.invariant.so_far tells in
     message_refused c.args.order s _ _ _ _ _ _ _ h
     (found_none c.args.order s _ _ _ _ h (nothing_found c.args.order _ _ c.in_default.not-Some (c.in_ok-code.ensures.read tells)))
-    c.in-Err.ensures.refused c.refuse.ensures.first
+    c.in-Err.ensures.refused c.refuse.ensures.first c.refuse.ensures.place

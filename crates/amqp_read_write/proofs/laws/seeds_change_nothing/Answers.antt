@@ -9,11 +9,13 @@ returns-clause-read g c limits seed input v n = (
 pub returns-clause-refused : goal.returns-clause-refused
 returns-clause-refused g c limits seed input e = (
   λ h. record {
+    left = h.left;
     fault = h.fault;
     none = λ v n k. h.none v n (record { after = k.after; read = k.read; left = k.left });
     unspelled = h.unspelled;
   },
   λ h. record {
+    left = h.left;
     fault = h.fault;
     none = λ v n k. h.none v n (record { after = k.after; read = k.read; left = k.left });
     unspelled = h.unspelled;

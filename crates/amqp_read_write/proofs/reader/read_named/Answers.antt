@@ -1,8 +1,9 @@
 use Rattle.std.proofs.Common.{length, drop, refl, sym, ap, ap₂, ◌∙◌}
 use Rattle.amqp_wire.specs.Sources.{known}
 use Rattle.amqp_wire.specs.Limits.{limit_of}
+use Rattle.amqp_decoder.specs.State.{Reader}
 use Rattle.amqp_read_write.specs.Reserved.{reserved}
-use Rattle.amqp_read_write.proofs.FromReader.{found, one, behind, refused, memory, limited, failed, failing, read_among, still_alone}
+use Rattle.amqp_read_write.proofs.FromReader.{found, one, behind, refused, placed, memory, limited, failed, failing, read_among, still_alone}
 use Rattle.amqp_read_write.proofs.Reserved.{reserve_left, taken_within}
 use Rattle.amqp_read_write.proofs.reader.read_named.Goals as goal
 
@@ -38,6 +39,14 @@ returns-clause-refused g c = λ told.
     let y = read_among g.T.Deserialize.reading _ refl _ _ read in
     refused c.args.limits.now g.T.Deserialize.reading (known (g.S.ByteSource.remaining c.args.source)) _ _ _ y.after y.read _
     (c.source_of-source.ensures.failed ∙ sym y.broken)
+
+pub returns-clause-place : goal.returns-clause-place
+returns-clause-place g c = λ told.
+    let read = rw c.decoder_for-decoder.ensures at (c.deserialize-read.ensures.read (λ s. told s.source)) in
+    let y = read_among g.T.Deserialize.reading _ refl _ _ read in
+    placed c.args.limits.now g.T.Deserialize.reading (known (g.S.ByteSource.remaining c.args.source)) _ _ _ y.after refl y.read _
+    (c.source_of-source.ensures.failed ∙ sym y.broken) _
+    (c.fault-place.ensures ∙ ap (λ (s : Reader). s.fault) (sym y.source))
 
 pub returns-clause-memory : goal.returns-clause-memory
 returns-clause-memory g c =

@@ -1,7 +1,8 @@
 use Rattle.std.proofs.Common.{false, [], ◌∷◌, ap₂}
 use Rattle.std.proofs.lemmas.Result.{err_from_is_err_and}
+use Rattle.amqp_decoder.proofs.Places.{refused_here}
 use Rattle.amqp_sections.proofs.SectionReads.{begin_refused, value_refused, end_refused, whole_read}
-use Rattle.amqp_codec.proofs.Tries.{taking_none, taking_so, began_then, refused_more, refused_behind}
+use Rattle.amqp_codec.proofs.Tries.{taking_none, taking_so, refused_more, refused_behind}
 use Rattle.amqp_sections.proofs.section.read_section.Goals as goal
 
 pub returns-in_err-begin_one_of-clause-read : goal.returns-in_err-begin_one_of-clause-read
@@ -24,7 +25,7 @@ returns-in-Err-end_described-clause-read g c tells =
     let names = ap₂ (λ a b. (a, b) ∷ []) c.descriptor.ensures.code c.descriptor.ensures.name in
     end_refused g.S.Section.holds g.S.Section.naming g.T.DeserializeTerm.term (c.descriptor.result ∷ []) _ _ _ names
     (c.in_ok-begin_one_of.ensures.nesting tells) (c.in_ok-begin_one_of.ensures.opened tells) _ _ _ _ (c.in-Ok.ensures.read tells)
-    c.in-Err-end_described.ensures.read
+    (refused_here c.in-Err-end_described.ensures.read c.in-Err-end_described.ensures.place)
 
 pub returns-in-Err-clause-read : goal.returns-in-Err-clause-read
 returns-in-Err-clause-read g c tells =

@@ -11,4 +11,4 @@ returns-in_err-number-clause-read g c tells =
 pub returns-in-None-clause-read : goal.returns-in-None-clause-read
 returns-in-None-clause-read g c tells =
     restricted_unknown g.T.Number.Base.base UnknownNumber g.T.RestrictedNumber.numbers _ _ _ _ _ (c.in_ok-number.ensures.read tells)
-    c.in-None.ensures c.refuse_at.ensures.first
+    c.in-None.ensures c.refuse_at.ensures.first c.place-place.result c.refuse_at.ensures.place c.place-place.ensures

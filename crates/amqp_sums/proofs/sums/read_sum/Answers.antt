@@ -5,6 +5,7 @@ use Rattle.amqp_codec.specs.laws.Members.{unopened, unread, unended, read_whole,
 use Rattle.amqp_sums.proofs.SumMembers.{are_members}
 use Rattle.amqp_codec.proofs.Tries.{taking_none, refused_more, refused_behind}
 use Rattle.amqp_sums.proofs.sums.read_sum.Goals as goal
+use Rattle.amqp_decoder.proofs.Places.{refused_here}
 
 pub returns-in_err-place-clause-read : goal.returns-in_err-place-clause-read
 returns-in_err-place-clause-read g c tells =
@@ -35,7 +36,8 @@ returns-in-Err-end_described-clause-read g c tells =
     let opened = c.in_ok-place.ensures.opened tells in
     let few = within (members_of s.choices) (sum_of s).means (are_members s) ms _ _ _ names opened in
     let read = c.in-Ok.ensures.read few tells in
-    unended (members_of s.choices) (sum_of s).means (are_members s) ms _ _ _ _ _ _ _ names opened read c.in-Err-end_described.ensures.read
+    unended (members_of s.choices) (sum_of s).means (are_members s) ms _ _ _ _ _ _ _ names opened read
+    (refused_here c.in-Err-end_described.ensures.read c.in-Err-end_described.ensures.place)
 
 pub returns-in-Err-clause-read : goal.returns-in-Err-clause-read
 returns-in-Err-clause-read g c tells =

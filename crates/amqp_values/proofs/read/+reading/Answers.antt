@@ -31,11 +31,12 @@ use Rattle.amqp_values.proofs.ValueSteps.{less_bounded, less_refused, less_read,
 use Rattle.amqp_values.proofs.ValueSteps.{less_pairs}
 use Rattle.amqp_codec.proofs.Tries.{taking_some, began_then, began_passed, passed_then, refused_more, refused_later, refused_behind, refused_by, tries_behind}
 use Rattle.amqp_values.proofs.read.+reading.Goals as goal
+use Rattle.amqp_decoder.proofs.Places.{refused_here}
 
 pub read_any-returns-in_err-code-clause-read : goal.read_any-returns-in_err-code-clause-read
 read_any-returns-in_err-code-clause-read g t c tells bounded =
     let p = err_from_is_err_and c.from_residual.result c.from_residual.ensures.1 in
-    rw (p.1, p.2) (peek_refused _ _ _ _ (c.in_err-code.ensures.read tells))
+    rw (p.1, p.2) (peek_refused _ _ _ _ (c.in_err-code.ensures.read tells) c.in_err-code.ensures.place)
 
 pub read_any-returns-in-Null-clause-read : goal.read_any-returns-in-Null-clause-read
 read_any-returns-in-Null-clause-read g t c tells bounded =
@@ -184,7 +185,8 @@ read_list-returns-in_err-count-clause-read g t c tells bounded =
     let p = err_from_is_err_and c.from_residual.result c.from_residual.ensures.1 in
     rw (p.1, p.2)
     (as_member (IsOfItems list) _ _ _ _
-    (open_refused list_opening (value_with (faults_at c.args.levels)) (λ vs. vs) _ _ _ tt (c.in_err-count.ensures.read tells)))
+    (open_refused list_opening (value_with (faults_at c.args.levels)) (λ vs. vs) _ _ _ tt
+    (refused_here (c.in_err-count.ensures.read tells) c.in_err-count.ensures.place)))
 
 pub read_list-returns-in_err-inner-clause-read : goal.read_list-returns-in_err-inner-clause-read
 read_list-returns-in_err-inner-clause-read g t c tells bounded =
@@ -216,7 +218,7 @@ read_list-returns-in_err-end_list-clause-read g t c tells bounded =
     rw (p.1, p.2)
     (as_member (IsOfItems list) _ _ _ _
     (end_refused list_opening (value_with (faults_at c.args.levels)) (λ vs. vs) _ _ _ c.in_ok-values.values.items _ _ _ tt opened row
-    (c.in_err-end_list.ensures.read tells)))
+    (refused_here (c.in_err-end_list.ensures.read tells) c.in_err-end_list.ensures.place)))
 
 pub read_list-returns-clause-read : goal.read_list-returns-clause-read
 read_list-returns-clause-read g t c tells bounded =
@@ -272,7 +274,7 @@ read_array-returns-in_err-end_array-clause-read g t c tells bounded =
     (as_member (IsOfItems array) _ _ _ _
     (end_refused array_opening (value_with (faults_at c.args.levels)) (λ vs. vs) _ _ _ c.in_ok-values.values.items _ _ _
     c.begin_array.ensures.room opened row
-    (c.in_err-end_array.ensures.read tells)))
+    (refused_here (c.in_err-end_array.ensures.read tells) c.in_err-end_array.ensures.place)))
 
 pub read_array-returns-clause-read : goal.read_array-returns-clause-read
 read_array-returns-clause-read g t c tells bounded =
@@ -324,7 +326,8 @@ read_described-returns-in_err-end_described-clause-read g t c tells bounded =
     rw (p.1, p.2)
     (as_member IsDescribed _ _ _ _
     (reads.end_refused (value_with (faults_at c.args.levels)) _ _ _ c.begin_described.ensures.nesting opened c.in_ok-value.value _ _ _
-    value c.in_err-end_described.ensures.read))
+    value
+    (refused_here c.in_err-end_described.ensures.read c.in_err-end_described.ensures.place)))
 
 pub read_described-returns-in-Ok-clause-read : goal.read_described-returns-in-Ok-clause-read
 read_described-returns-in-Ok-clause-read g t c tells bounded =
@@ -361,7 +364,7 @@ read_pairs-returns-in-Ok-true-clause-read g t c tells bounded =
     (omega (arith, c.loop.invariant.long, c.loop-test.false, c.loop.auto.counter-end)) (c.loop.invariant.each tells bounded)
     (key_twice c.args.levels c.loop.pairs.items
     (sym c.in-Ok-true.field-0-test ∙ rw c.as_slice.ensures.value at c.in-Ok-true.ensures.equal))
-    c.refuse-in-Ok-true.ensures.first
+    c.refuse-in-Ok-true.ensures.first c.refuse-in-Ok-true.ensures.place
 
 pub read_pairs-returns-in-Ok-false-clause-read : goal.read_pairs-returns-in-Ok-false-clause-read
 read_pairs-returns-in-Ok-false-clause-read g t c tells bounded = record {
@@ -423,7 +426,8 @@ pub read_map-returns-in_err-count-clause-read : goal.read_map-returns-in_err-cou
 read_map-returns-in_err-count-clause-read g t c tells bounded =
     let part = value_with (faults_at c.args.levels) in
     let p = err_from_is_err_and c.from_residual.result c.from_residual.ensures.1 in
-    rw (p.1, p.2) (as_member IsOfPairs _ _ _ _ (maps.open_refused part part _ _ _ (c.in_err-count.ensures.read tells)))
+    rw (p.1, p.2) (as_member IsOfPairs _ _ _ _ (maps.open_refused part part _ _ _
+    (refused_here (c.in_err-count.ensures.read tells) c.in_err-count.ensures.place)))
 
 pub read_map-returns-in_err-inner-clause-read : goal.read_map-returns-in_err-inner-clause-read
 read_map-returns-in_err-inner-clause-read g t c tells bounded =
@@ -454,7 +458,7 @@ read_map-returns-in_err-end_map-clause-read g t c tells bounded =
     (c.in_ok-pairs.ensures.read tells (less_bounded c.args.levels c.in_ok-inner.inner _ _ less.0 less.1 inside)) in
     rw (p.1, p.2)
     (as_member IsOfPairs _ _ _ _
-    (maps.end_refused part part _ _ _ c.in_ok-pairs.pairs.items _ _ _ (by_two opened) row (c.in_err-end_map.ensures.read tells)))
+    (maps.end_refused part part _ _ _ c.in_ok-pairs.pairs.items _ _ _ (by_two opened) row (refused_here (c.in_err-end_map.ensures.read tells) c.in_err-end_map.ensures.place)))
 
 pub read_map-returns-clause-read : goal.read_map-returns-clause-read
 read_map-returns-clause-read g t c tells bounded =

@@ -42,7 +42,7 @@ pub returns-in_err-peek_section-clause-read : goal.returns-in_err-peek_section-c
 returns-in_err-peek_section-clause-read g c tells =
     let u = g.T.DeserializeTerm.term in
     refused_at c.from_residual.result c.from_residual.ensures.1
-    (peek_refused (bodies u) _ _ _ not_top (body_top (values u) datas (sequences u)) (c.in_err-peek_section.ensures.read tells))
+    (peek_refused (bodies u) _ _ _ (λ x n. not_top n) (body_top (values u) datas (sequences u)) (c.in_err-peek_section.ensures.read tells))
 
 pub returns-in_err-peek_section-clause-tries : goal.returns-in_err-peek_section-clause-tries
 returns-in_err-peek_section-clause-tries g c =
@@ -55,7 +55,7 @@ returns-in_err-deserialize-in-Some-eq117-clause-read g c tells =
     let k = c.in_ok-peek_section.ensures.read tells in
     let a = ahead_here _ _ _ 0x75 k (c.in-Some-eq117.is ∙ ap Some c.in-Some-eq117.field-0-test) in
     refused_at c.from_residual-in_err-deserialize-in-Some-eq117.result c.from_residual-in_err-deserialize-in-Some-eq117.ensures.1
-    (group_refused (bodies u) datas.reads datas.fault _ _ _ _ _ k (λ _. refl) (in_data_fault a)
+    (group_refused (bodies u) datas.reads datas.fault _ _ _ _ _ k (λ _. refl) (λ x f. in_data_fault a f)
     (only_data (values u) datas (sequences u) _ a) (c.in_err-deserialize-in-Some-eq117.ensures.read tells))
 
 pub returns-in_err-deserialize-in-Some-eq117-clause-tries : goal.returns-in_err-deserialize-in-Some-eq117-clause-tries
@@ -73,7 +73,7 @@ returns-in_err-deserialize-in-Some-eq118-clause-read g c tells =
     let k = c.in_ok-peek_section.ensures.read tells in
     let a = ahead_here _ _ _ 0x76 k (c.in-Some-eq118.is ∙ ap Some c.in-Some-eq118.field-0-test) in
     refused_at c.from_residual-in_err-deserialize-in-Some-eq118.result c.from_residual-in_err-deserialize-in-Some-eq118.ensures.1
-    (group_refused (bodies u) (sequences u).reads (sequences u).fault _ _ _ _ _ k (λ _. refl) (in_sequence_fault a)
+    (group_refused (bodies u) (sequences u).reads (sequences u).fault _ _ _ _ _ k (λ _. refl) (λ x f. in_sequence_fault a f)
     (only_sequence (values u) datas (sequences u) _ a) (c.in_err-deserialize-in-Some-eq118.ensures.read tells))
 
 pub returns-in_err-deserialize-in-Some-eq118-clause-tries : goal.returns-in_err-deserialize-in-Some-eq118-clause-tries
@@ -91,7 +91,7 @@ returns-in_err-read_value-in-Some-eq119-clause-read g c tells =
     let k = c.in_ok-peek_section.ensures.read tells in
     let a = ahead_here _ _ _ 0x77 k (c.in-Some-eq119.is ∙ ap Some c.in-Some-eq119.field-0-test) in
     refused_at c.from_residual-in_err-read_value-in-Some-eq119.result c.from_residual-in_err-read_value-in-Some-eq119.ensures.1
-    (group_refused (bodies u) (values u).reads (values u).fault _ _ _ _ _ k (λ _. refl) (in_value_fault a)
+    (group_refused (bodies u) (values u).reads (values u).fault _ _ _ _ _ k (λ _. refl) (λ x f. in_value_fault a f)
     (only_value (values u) datas (sequences u) _ a) (c.in_err-read_value-in-Some-eq119.ensures.read tells))
 
 pub returns-in_err-read_value-in-Some-eq119-clause-tries : goal.returns-in_err-read_value-in-Some-eq119-clause-tries
@@ -133,14 +133,14 @@ returns-in-Some-clause-read g c tells =
     let k = c.in_ok-peek_section.ensures.read tells in
     let a = ahead_here _ _ _ c.in-Some._code k c.in-Some.is in
     let t = c.in-Some._code-test in
-    kept_refused (bodies u) _ _ _ WrongDescriptor _ _ k (other_section a t.0.0.1 t.0.1 t.1 refl)
+    kept_refused (bodies u) _ _ _ WrongDescriptor _ _ k (other_section a t.0.0.1 t.0.1 t.1 refl refl)
     (no_body (values u) datas (sequences u) _ (λ h. t.0.0.1 (one_ahead _ c.in-Some._code 0x75 a h))
-    (λ h. t.0.1 (one_ahead _ c.in-Some._code 0x76 a h)) (λ h. t.1 (one_ahead _ c.in-Some._code 0x77 a h))) c.refuse.ensures.first
+    (λ h. t.0.1 (one_ahead _ c.in-Some._code 0x76 a h)) (λ h. t.1 (one_ahead _ c.in-Some._code 0x77 a h))) c.refuse.ensures.first c.refuse.ensures.place
 
 pub returns-in-None-clause-read : goal.returns-in-None-clause-read
 returns-in-None-clause-read g c tells =
     let u = g.T.DeserializeTerm.term in
     let k = c.in_ok-peek_section.ensures.read tells in
     let none = no_section_here _ _ _ k c.in-None.is in
-    group_refused (bodies u) (λ st (none : Unit {0}) b. ⊥) NoSection _ _ _ _ _ k (λ _. refl) (not_section none)
+    group_refused (bodies u) (λ st (none : Unit {0}) b. ⊥) NoSection _ _ _ _ _ k (λ _. refl) (λ x f. not_section none f)
     (λ _. no_body (values u) datas (sequences u) _ (none 0x75) (none 0x76) (none 0x77)) (c.no_section.ensures.read tells)

@@ -14,7 +14,7 @@ returns-in_err-peek_section-clause-read g c tells =
     let r = batch_reading g.T.BatchItem.code (reading_of g.T.DeserializeTerm.term) in
     let p = err_from_is_err_and c.from_residual.result c.from_residual.ensures.1 in
     rw (p.1, p.2)
-    (peek_refused (run_reading g.T.BatchItem.code r) _ _ _ not_top (λ seen v b h. h.1.top) (c.in_err-peek_section.ensures.read tells))
+    (peek_refused (run_reading g.T.BatchItem.code r) _ _ _ (λ x n. not_top n) (λ seen v b h. h.1.top) (c.in_err-peek_section.ensures.read tells))
 
 pub returns-in_err-peek_section-clause-tries : goal.returns-in_err-peek_section-clause-tries
 returns-in_err-peek_section-clause-tries g c =
@@ -27,7 +27,8 @@ returns-then-ne-clause-read g c tells =
     let r = batch_reading code (reading_of g.T.DeserializeTerm.term) in
     let k = c.in_ok-peek_section.ensures.read tells in
     let none = none_here _ _ _ code k (code_is_not _ _ _ c.code.ensures (was_false _ c.if-ne.ensures)) in
-    kept_refused (run_reading code r) _ _ _ WrongDescriptor _ _ k (other_section none refl) (λ v b h. none h.0) c.refuse.ensures.first
+    kept_refused (run_reading code r) _ _ _ WrongDescriptor _ _ k (other_section none refl refl) (λ v b h. none h.0) c.refuse.ensures.first
+    c.refuse.ensures.place
 
 pub returns-clause-read : goal.returns-clause-read
 returns-clause-read g c tells =

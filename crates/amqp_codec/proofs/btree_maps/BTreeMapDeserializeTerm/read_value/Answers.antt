@@ -5,6 +5,7 @@ use Rattle.amqp_codec.proofs.MapSteps.{by_two, open_refused, end_refused}
 use Rattle.amqp_codec.proofs.BTreeMapSteps.{refused_in_order, pairs_refused, read_in_order}
 use Rattle.amqp_codec.proofs.Tries.{taking_some, began_passed, refused_more, refused_behind}
 use Rattle.amqp_codec.proofs.btree_maps.BTreeMapDeserializeTerm.read_value.Goals as goal
+use Rattle.amqp_decoder.proofs.Places.{refused_here}
 
 pub returns-in_err-count-clause-read : goal.returns-in_err-count-clause-read
 returns-in_err-count-clause-read g c tells =
@@ -12,7 +13,8 @@ returns-in_err-count-clause-read g c tells =
     let value = g.V.DeserializeTerm.term in
     let p = err_from_is_err_and c.from_residual.result c.from_residual.ensures.1 in
     rw (p.1, p.2)
-    (refused_in_order key value g.K.Ord.cmp _ _ _ (open_refused key value _ _ _ (c.in_err-count.ensures.read tells)))
+    (refused_in_order key value g.K.Ord.cmp _ _ _ (open_refused key value _ _ _
+    (refused_here (c.in_err-count.ensures.read tells) c.in_err-count.ensures.place)))
 
 pub returns-in_err-map-clause-read : goal.returns-in_err-map-clause-read
 returns-in_err-map-clause-read g c tells =
@@ -29,7 +31,8 @@ returns-in_err-end_map-clause-read g c tells =
     let read = c.in_ok-map.ensures.read tells in
     rw (p.1, p.2)
     (refused_in_order key value g.K.Ord.cmp _ _ _
-    (end_refused key value _ _ _ read.pairs _ _ _ (by_two (c.in_ok-count.ensures.read tells)) read.row (c.in_err-end_map.ensures.read tells)))
+    (end_refused key value _ _ _ read.pairs _ _ _ (by_two (c.in_ok-count.ensures.read tells)) read.row
+    (refused_here (c.in_err-end_map.ensures.read tells) c.in_err-end_map.ensures.place)))
 
 pub returns-clause-read : goal.returns-clause-read
 returns-clause-read g c tells =

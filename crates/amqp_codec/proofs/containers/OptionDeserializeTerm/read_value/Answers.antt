@@ -1,6 +1,8 @@
 use Rattle.std.proofs.Common.{inl}
 use Rattle.std.proofs.lemmas.Result.{err_from_is_err_and}
 use Rattle.amqp_decoder.specs.Reading.{PeeksCode, BeginFault}
+use Rattle.amqp_decoder.specs.Places.{Here}
+use Rattle.amqp_decoder.proofs.Places.{refused_here}
 use Rattle.amqp_codec.specs.laws.Refusal.{no_memory, refused_first}
 use Rattle.amqp_codec.specs.laws.Peek.{value_peeked}
 use Rattle.amqp_codec.proofs.Options.{null_refused, none_read, some_read, some_refused}
@@ -9,7 +11,8 @@ use Rattle.amqp_codec.proofs.containers.OptionDeserializeTerm.read_value.Goals a
 pub returns-in_err-peek_code-clause-read : goal.returns-in_err-peek_code-clause-read
 returns-in_err-peek_code-clause-read g c tells =
     let p = err_from_is_err_and c.from_residual.result c.from_residual.ensures.1 in
-    rw (p.1, p.2) (refused_first PeeksCode BeginFault _ _ _ _ _ no_memory inl (value_peeked _ _) (c.in_err-peek_code.ensures.read tells))
+    rw (p.1, p.2) (refused_first PeeksCode (Here BeginFault) _ _ _ _ _ no_memory (λ _. inl) (value_peeked _ _)
+    (refused_here (c.in_err-peek_code.ensures.read tells) c.in_err-peek_code.ensures.place))
 
 pub returns-in_err-read_null-clause-read : goal.returns-in_err-read_null-clause-read
 returns-in_err-read_null-clause-read g c tells =

@@ -4,4 +4,4 @@ use Rattle.amqp_codec.proofs.PrimitiveReads.{primitive_read}
 use Rattle.amqp_codec.proofs.integers.U16DeserializeTerm.read_value.Goals as goal
 
 pub returns-clause-read : goal.returns-clause-read
-returns-clause-read g c tells = primitive_read false ushort_base (λ v. v) _ _ _ (search rules) (c.read_ushort.ensures.read tells)
+returns-clause-read g c tells = primitive_read false ushort_base (λ v. v) _ _ _ (search rules) (c.read_ushort.ensures.read tells) c.read_ushort.ensures.place

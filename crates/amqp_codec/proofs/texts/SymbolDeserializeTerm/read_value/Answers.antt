@@ -4,4 +4,4 @@ use Rattle.amqp_codec.proofs.PrimitiveReads.{primitive_read}
 use Rattle.amqp_codec.proofs.texts.SymbolDeserializeTerm.read_value.Goals as goal
 
 pub returns-clause-read : goal.returns-clause-read
-returns-clause-read g c tells = primitive_read true symbol_base (λ v. string_bytes v.0) _ _ _ (search rules) (c.read_symbol.ensures.read tells)
+returns-clause-read g c tells = primitive_read true symbol_base (λ v. string_bytes v.0) _ _ _ (search rules) (c.read_symbol.ensures.read tells) c.read_symbol.ensures.place

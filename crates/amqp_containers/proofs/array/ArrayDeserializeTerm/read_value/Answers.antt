@@ -1,5 +1,6 @@
 use Rattle.std.proofs.Common.{false, true, refl}
 use Rattle.std.proofs.lemmas.Result.{err_from_is_err_and}
+use Rattle.amqp_decoder.proofs.Places.{refused_here}
 use Rattle.amqp_codec.proofs.ItemsSteps.{open_refused, row_refused, end_refused, all_read}
 use Rattle.amqp_containers.specs.ArrayType.{array_opening}
 use Rattle.amqp_codec.proofs.Tries.{taking_some, began_passed, refused_more, refused_behind}
@@ -25,7 +26,8 @@ returns-in_err-end_array-clause-read g c tells =
     let p = err_from_is_err_and c.from_residual-in_err-end_array.result c.from_residual-in_err-end_array.ensures.1 in
     rw (p.1, p.2)
     (end_refused array_opening g.T.DeserializeTerm.term (λ v. v.0.items) _ _ _ (record { 0 = c.in_ok-items.items }) _ _ _
-    c.begin_array.ensures.room (c.in_ok-count.ensures.opened tells) (c.in_ok-items.ensures.read tells) (c.in_err-end_array.ensures.read tells))
+    c.begin_array.ensures.room (c.in_ok-count.ensures.opened tells) (c.in_ok-items.ensures.read tells) 
+    (refused_here (c.in_err-end_array.ensures.read tells) c.in_err-end_array.ensures.place))
 
 pub returns-clause-read : goal.returns-clause-read
 returns-clause-read g c tells =

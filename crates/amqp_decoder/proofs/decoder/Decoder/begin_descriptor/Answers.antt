@@ -1,3 +1,5 @@
+use Rattle.std.proofs.Common.{◌<◌, length}
+use Rattle.amqp_decoder.specs.State.{State}
 use Rattle.amqp_decoder.specs.Reading.{ReadsCode}
 use Rattle.amqp_decoder.proofs.Places.{placed_ok, placed_fault, placed_tries, placed_here}
 use Rattle.amqp_decoder.proofs.decoder.Decoder.begin_descriptor.Goals as goal
@@ -5,6 +7,10 @@ use Rattle.amqp_decoder.proofs.decoder.Decoder.begin_descriptor.Goals as goal
 pub returns-clause-ok : goal.returns-clause-ok
 returns-clause-ok g c = λ told. rw (c.placed.ensures.same, c.placed.ensures.kept)
     (placed_ok (λ _. ReadsCode _ 0) _ _ _ (c.any_begun-answer.ensures.ok told))
+
+pub returns-clause-few : goal.returns-clause-few
+returns-clause-few g c = rw (c.placed.ensures.same, c.placed.ensures.kept)
+    (placed_ok (λ _ (st : State). length st.saved < st.nesting) _ _ _ c.any_begun-answer.ensures.few)
 
 pub returns-clause-err : goal.returns-clause-err
 returns-clause-err g c = λ told. rw (c.placed.ensures.same, c.placed.ensures.kept)

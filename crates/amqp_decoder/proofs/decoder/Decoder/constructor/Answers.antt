@@ -4,13 +4,14 @@ use Rattle.std.proofs.lemmas.List.{length-map}
 use Rattle.amqp_decoder.specs.State.{descriptor_of}
 use Rattle.amqp_decoder.proofs.Constructed.{unshared_behind, more_named, code_after, constructor_took, stopped_first, stopped_code}
 use Rattle.amqp_decoder.proofs.Constructed.{stopped_mark, stopped_unknown}
-use Rattle.amqp_decoder.proofs.Steps.{stopped_short}
+use Rattle.amqp_decoder.specs.Steps.{Lacks}
+use Rattle.amqp_decoder.proofs.Places.{stops_here}
 use Rattle.amqp_decoder.proofs.decoder.Decoder.constructor.Goals as goal
 
 pub returns-in_err-code-clause-err : goal.returns-in_err-code-clause-err
 returns-in_err-code-clause-err g c = λ told none.
     let p = err_from_is_err_and c.from_residual.result c.from_residual.ensures.1 in
-    rw (p.1, p.2) (stopped_first _ _ _ (stopped_short _ _ _ _ (c.in_err-code.ensures.err told)))
+    rw (p.1, p.2) (stopped_first _ _ _ (stops_here (Lacks 1) {st = c.args.self.now} (c.in_err-code.ensures.err told) c.in_err-code.ensures.place))
 
 pub returns-in_err-keep_descriptor-clause-err : goal.returns-in_err-keep_descriptor-clause-err
 returns-in_err-keep_descriptor-clause-err g c = λ told none.
@@ -24,7 +25,8 @@ returns-in_err-code-2-clause-err g c = λ told none.
     let p = err_from_is_err_and c.from_residual-in_err-code-2.result c.from_residual-in_err-code-2.ensures.1 in
     let marks = rw c.loop-code-test.true at (c.loop-code.invariant.marks told none) in
     let named = more_named _ _ _ _ _ none marks (c.in_ok-keep_descriptor.ensures.ok told (unshared_behind _ _ _ _ marks none)) in
-    rw (p.1, p.2) (stopped_code _ _ _ _ _ named (stopped_short _ _ _ _ (c.in_err-code-2.ensures.err told)))
+    rw (p.1, p.2) (stopped_code _ _ _ _ _ named
+    (stops_here (Lacks 1) {st = c.keep_descriptor.new.self} (c.in_err-code-2.ensures.err told) c.in_err-code-2.ensures.place))
 
 pub loop-code-preserved : goal.loop-code-preserved
 loop-code-preserved g c = record {
@@ -39,7 +41,8 @@ loop-code-preserved g c = record {
 pub returns-in_err-check_known-clause-err : goal.returns-in_err-check_known-clause-err
 returns-in_err-check_known-clause-err g c = λ told none.
     let p = err_from_is_err_and c.from_residual-in_err-check_known.result c.from_residual-in_err-check_known.ensures.1 in
-    rw (p.1, p.2) (stopped_unknown _ _ _ _ _ _ (c.loop-code.invariant.marks told none) c.in_err-check_known.ensures.err)
+    rw (p.1, p.2) (stopped_unknown _ _ _ _ _ _ (c.loop-code.invariant.marks told none) c.in_err-check_known.ensures.err
+    c.in_err-check_known.ensures.place)
 
 pub returns-clause-ok : goal.returns-clause-ok
 returns-clause-ok g c = λ told none.

@@ -1,7 +1,7 @@
 use Rattle.std.proofs.Common.{◌≡◌}
 use Rattle.amqp_wire.specs.declared.error.Error.TheVariants.{Limit}
 use Rattle.amqp_decoder.specs.State.{State, Has, lower}
-use Rattle.amqp_decoder.proofs.Places.{placed_ok, placed_refusal, placed_goes}
+use Rattle.amqp_decoder.proofs.Places.{placed_ok, placed_refusal, placed_goes, placed_at}
 use Rattle.amqp_decoder.proofs.decoder.Decoder.count_weight_from.Goals as goal
 
 pub returns-clause-ok : goal.returns-clause-ok
@@ -16,3 +16,6 @@ returns-clause-err g c = rw (c.placed.ensures.same, c.placed.ensures.kept)
 
 pub returns-clause-goes : goal.returns-clause-goes
 returns-clause-goes g c = rw (c.placed.ensures.same, c.placed.ensures.kept) (search (placed_goes, c.count_weight-counted.ensures.goes))
+
+pub returns-clause-place : goal.returns-clause-place
+returns-clause-place g c = rw (c.placed.ensures.same, c.placed.ensures.kept) (placed_at _ _ _)

@@ -30,7 +30,8 @@ loop-code-preserved g c = record {
 pub returns-then-count-eq-NESTING-clause-err : goal.returns-then-count-eq-NESTING-clause-err
 returns-then-count-eq-NESTING-clause-err g c = λ told.
     let marks = rw c.loop-code-test.true at (c.loop-code.invariant.kept told) in
-    unmarked_deep _ _ _ _ _ c.stop.result _ c.if-count-eq-NESTING.true marks c.stop.ensures.answer c.stop.ensures.kept
+    unmarked_deep _ _ _ _ _ c.stop_before.result _ c.if-count-eq-NESTING.true marks c.stop_before.ensures.answer c.stop_before.ensures.kept
+    c.stop_before.ensures.place
 
 pub returns-in_err-keep_descriptor_bytes-clause-err : goal.returns-in_err-keep_descriptor_bytes-clause-err
 returns-in_err-keep_descriptor_bytes-clause-err g c = λ told.
@@ -49,7 +50,8 @@ returns-in_err-code-2-clause-err g c = λ told.
 pub returns-in_err-check_known-clause-err : goal.returns-in_err-check_known-clause-err
 returns-in_err-check_known-clause-err g c = λ told.
     let p = err_from_is_err_and c.from_residual-in_err-check_known.result c.from_residual-in_err-check_known.ensures.1 in
-    rw (p.1, p.2) (unmarked_unknown _ _ _ _ _ _ _ _ (c.loop-code.invariant.kept told) c.in_err-check_known.ensures.err)
+    rw (p.1, p.2) (unmarked_unknown _ _ _ _ _ _ _ _ (c.loop-code.invariant.kept told) c.in_err-check_known.ensures.err
+    c.in_err-check_known.ensures.place)
 
 pub returns-clause-ok : goal.returns-clause-ok
 returns-clause-ok g c =

@@ -1,5 +1,5 @@
 use Rattle.amqp_decoder.specs.Arrays.{OpensItems}
-use Rattle.amqp_decoder.proofs.Places.{placed_ok, placed_stops, placed_goes}
+use Rattle.amqp_decoder.proofs.Places.{placed_ok, placed_stops, placed_goes, placed_at}
 use Rattle.amqp_decoder.proofs.decoder.Decoder.open_from.Goals as goal
 
 pub returns-clause-ok : goal.returns-clause-ok
@@ -13,3 +13,6 @@ returns-clause-err g c = λ told. rw (c.placed.ensures.same, c.placed.ensures.ke
 pub returns-clause-goes : goal.returns-clause-goes
 returns-clause-goes g c = rw (c.placed.ensures.same, c.placed.ensures.kept)
     (search (placed_goes, c.open_any-opened.ensures.goes))
+
+pub returns-clause-place : goal.returns-clause-place
+returns-clause-place g c = rw (c.placed.ensures.same, c.placed.ensures.kept) (placed_at _ _ _)

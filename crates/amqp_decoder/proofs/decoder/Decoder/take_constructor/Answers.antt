@@ -18,15 +18,16 @@ returns-then-count-eq0-clause-ok g c = λ told none here. no_items _ _ c.if-coun
 
 pub returns-then-has_width_zero-clause-err : goal.returns-then-has_width_zero-clause-err
 returns-then-has_width_zero-clause-err g c = λ told none.
-    stopped_zero _ _ _ _ _ _ _ _ c.if-count-eq0.false (c.in_ok-descriptors.ensures.ok told none) c.if-has_width_zero.true
+    stopped_zero _ _ _ _ _ _ _ c.place-start.result _ c.if-count-eq0.false (c.in_ok-descriptors.ensures.ok told none) c.if-has_width_zero.true
     (known_zero c.in_ok-descriptors.code c.has_width_zero.result c.has_width_zero.ensures) c.stop_at.ensures.answer
-    (answered _ _ _ _ c.stop_at.ensures.kept c.stop_at.ensures.answer)
+    (answered _ _ _ _ c.stop_at.ensures.kept c.stop_at.ensures.answer) c.stop_at.ensures.place c.place-start.ensures
 
 pub returns-in_err-check_items-clause-err : goal.returns-in_err-check_items-clause-err
 returns-in_err-check_items-clause-err g c = λ told none.
     let p = err_from_is_err_and c.from_residual-in_err-check_items.result c.from_residual-in_err-check_items.ensures.1 in
-    rw (p.1, p.2) (stopped_nested _ _ _ _ _ c.is_flat.result _ _ c.if-count-eq0.false (c.in_ok-descriptors.ensures.ok told none)
-    (rw c.deref.ensures.value at c.is_flat.ensures.is) c.in_err-check_items.ensures.err)
+    rw (p.1, p.2) (stopped_nested _ _ _ _ _ c.is_flat.result _ c.place-start.result _ c.if-count-eq0.false
+    (c.in_ok-descriptors.ensures.ok told none) (rw c.deref.ensures.value at c.is_flat.ensures.is) c.in_err-check_items.ensures.err
+    c.in_err-check_items.ensures.place c.place-start.ensures)
 
 pub share-requires-clause-room : goal.share-requires-clause-room
 share-requires-clause-room g c =

@@ -1,5 +1,5 @@
 use Rattle.std.proofs.lemmas.Result.{err_from_is_err_and}
-use Rattle.amqp_decoder.proofs.KeptTerms.{known_code, term_kept, no_constructor_kept, no_data_kept, no_term_kept}
+use Rattle.amqp_decoder.proofs.KeptTerms.{known_code, term_kept, no_constructor_kept, no_data_kept, began_before, no_term_kept}
 use Rattle.amqp_decoder.proofs.decoder.Decoder.term_bytes.Goals as goal
 
 pub returns-in_err-code-clause-err : goal.returns-in_err-code-clause-err
@@ -11,8 +11,9 @@ pub returns-in_err-keep_data-clause-err : goal.returns-in_err-keep_data-clause-e
 returns-in_err-keep_data-clause-err g c = λ told.
     let p = err_from_is_err_and c.from_residual-in_err-keep_data.result c.from_residual-in_err-keep_data.ensures.1 in
     let constructor = c.in_ok-code.ensures.ok told in
-    rw (p.1, p.2) (no_data_kept c.in_ok-code.code _ _ _ _ _ _ constructor
-    (c.in_err-keep_data.ensures.err told (known_code c.in_ok-code.code _ constructor.is)))
+    rw (p.1, p.2) (no_data_kept c.in_ok-code.code _ _ _ _ _ c.place-start.result _ constructor
+    (c.in_err-keep_data.ensures.err told (known_code c.in_ok-code.code _ constructor.is)) c.in_err-keep_data.ensures.place
+    c.place-start.ensures)
 
 pub returns-in_err-check_term-clause-err : goal.returns-in_err-check_term-clause-err
 returns-in_err-check_term-clause-err g c = λ told.
@@ -20,7 +21,8 @@ returns-in_err-check_term-clause-err g c = λ told.
     let constructor = c.in_ok-code.ensures.ok told in
     let data_ = c.in_ok-keep_data.ensures.ok told (known_code c.in_ok-code.code _ constructor.is) in
     rw (p.1, p.2) (no_term_kept c.in_ok-code.code _ _ _ _ _ _ _ _ c.new-bytes.ensures.items constructor data_
-    (rw c.as_slice.ensures.value at (c.in_err-check_term.ensures.err told)))
+    ((rw c.as_slice.ensures.value at (c.in_err-check_term.ensures.err told))
+    (began_before c.in_ok-code.code c.place-start.result _ _ _ _ _ _ c.new-bytes.ensures.items constructor data_ c.place-start.ensures)))
 
 pub returns-clause-ok : goal.returns-clause-ok
 returns-clause-ok g c = λ told.

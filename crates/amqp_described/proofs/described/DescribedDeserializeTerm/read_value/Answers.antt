@@ -3,6 +3,7 @@ use Rattle.std.proofs.lemmas.Result.{err_from_is_err_and}
 use Rattle.amqp_described.proofs.DescribedReads.{open_refused, value_refused, end_refused, whole_read}
 use Rattle.amqp_codec.proofs.Tries.{taking_some, began_then, refused_more, refused_behind}
 use Rattle.amqp_described.proofs.described.DescribedDeserializeTerm.read_value.Goals as goal
+use Rattle.amqp_decoder.proofs.Places.{refused_here}
 
 pub returns-in_err-descriptor-clause-read : goal.returns-in_err-descriptor-clause-read
 returns-in_err-descriptor-clause-read g c tells =
@@ -22,7 +23,8 @@ returns-in_err-end_described-clause-read g c tells =
     let p = err_from_is_err_and c.from_residual-in_err-end_described.result c.from_residual-in_err-end_described.ensures.1 in
     rw (p.1, p.2)
     (end_refused g.T.DeserializeTerm.term _ _ _ c.begin_described.ensures.nesting (c.in_ok-descriptor.ensures.opened tells) _ _ _ _
-    (c.in_ok-value.ensures.read tells) c.in_err-end_described.ensures.read)
+    (c.in_ok-value.ensures.read tells)
+    (refused_here c.in_err-end_described.ensures.read c.in_err-end_described.ensures.place))
 
 pub returns-clause-read : goal.returns-clause-read
 returns-clause-read g c tells =

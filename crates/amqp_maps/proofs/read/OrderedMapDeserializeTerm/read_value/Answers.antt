@@ -3,12 +3,13 @@ use Rattle.std.proofs.lemmas.Result.{err_from_is_err_and}
 use Rattle.amqp_codec.proofs.MapSteps.{by_two, open_refused, row_refused, end_refused, all_read}
 use Rattle.amqp_codec.proofs.Tries.{taking_some, began_passed, refused_more, refused_behind}
 use Rattle.amqp_maps.proofs.read.OrderedMapDeserializeTerm.read_value.Goals as goal
+use Rattle.amqp_decoder.proofs.Places.{refused_here}
 
 pub returns-in_err-count-clause-read : goal.returns-in_err-count-clause-read
 returns-in_err-count-clause-read g c tells =
     let p = err_from_is_err_and c.from_residual.result c.from_residual.ensures.1 in
     rw (p.1, p.2)
-    (open_refused g.K.DeserializeTerm.term g.V.DeserializeTerm.term _ _ _ (c.in_err-count.ensures.read tells))
+    (open_refused g.K.DeserializeTerm.term g.V.DeserializeTerm.term _ _ _ (refused_here (c.in_err-count.ensures.read tells) c.in_err-count.ensures.place))
 
 pub returns-in_err-pairs-clause-read : goal.returns-in_err-pairs-clause-read
 returns-in_err-pairs-clause-read g c tells =
@@ -22,7 +23,7 @@ returns-in_err-end_map-clause-read g c tells =
     let p = err_from_is_err_and c.from_residual-in_err-end_map.result c.from_residual-in_err-end_map.ensures.1 in
     rw (p.1, p.2)
     (end_refused g.K.DeserializeTerm.term g.V.DeserializeTerm.term _ _ _ c.in_ok-pairs.pairs _ _ _
-    (by_two (c.in_ok-count.ensures.read tells)) (c.in_ok-pairs.ensures.read tells) (c.in_err-end_map.ensures.read tells))
+    (by_two (c.in_ok-count.ensures.read tells)) (c.in_ok-pairs.ensures.read tells) (refused_here (c.in_err-end_map.ensures.read tells) c.in_err-end_map.ensures.place))
 
 pub returns-clause-read : goal.returns-clause-read
 returns-clause-read g c tells =

@@ -7,7 +7,7 @@ use Rattle.amqp_message_headers.proofs.priority.PriorityDeserializeTerm.read_val
 pub returns-in_err-read_ubyte-clause-read : goal.returns-in_err-read_ubyte-clause-read
 returns-in_err-read_ubyte-clause-read g c tells =
     let p = err_from_is_err_and c.from_residual.result c.from_residual.ensures.1 in
-    rw (p.1, p.2) (newtype_refused ubyte_base (λ n. n) (λ p. p.0) _ _ _ (c.in_err-read_ubyte.ensures.read tells))
+    rw (p.1, p.2) (newtype_refused ubyte_base (λ n. n) (λ p. p.0) _ _ _ (c.in_err-read_ubyte.ensures.read tells) c.in_err-read_ubyte.ensures.place)
 
 pub returns-clause-read : goal.returns-clause-read
 returns-clause-read g c tells =

@@ -7,7 +7,7 @@ use Rattle.amqp_primitives.proofs.binary.BinaryDeserializeTerm.read_value.Goals 
 pub returns-in_err-read_binary-clause-read : goal.returns-in_err-read_binary-clause-read
 returns-in_err-read_binary-clause-read g c tells =
     let p = err_from_is_err_and c.from_residual.result c.from_residual.ensures.1 in
-    rw (p.1, p.2) (newtype_refused binary_base (λ b. b.items) (λ v. v.0) _ _ _ (c.in_err-read_binary.ensures.read tells))
+    rw (p.1, p.2) (newtype_refused binary_base (λ b. b.items) (λ v. v.0) _ _ _ (c.in_err-read_binary.ensures.read tells) c.in_err-read_binary.ensures.place)
 
 pub returns-clause-read : goal.returns-clause-read
 returns-clause-read g c tells =

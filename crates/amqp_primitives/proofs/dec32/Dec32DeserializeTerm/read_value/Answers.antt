@@ -7,7 +7,7 @@ use Rattle.amqp_primitives.proofs.dec32.Dec32DeserializeTerm.read_value.Goals as
 pub returns-in_err-read_dec32-clause-read : goal.returns-in_err-read_dec32-clause-read
 returns-in_err-read_dec32-clause-read g c tells =
     let p = err_from_is_err_and c.from_residual.result c.from_residual.ensures.1 in
-    rw (p.1, p.2) (newtype_refused decimal32_base (λ b. b) (λ v. v.0) _ _ _ (c.in_err-read_dec32.ensures.read tells))
+    rw (p.1, p.2) (newtype_refused decimal32_base (λ b. b) (λ v. v.0) _ _ _ (c.in_err-read_dec32.ensures.read tells) c.in_err-read_dec32.ensures.place)
 
 pub returns-clause-read : goal.returns-clause-read
 returns-clause-read g c tells =

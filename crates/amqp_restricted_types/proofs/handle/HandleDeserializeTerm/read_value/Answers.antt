@@ -6,4 +6,4 @@ use Rattle.amqp_restricted_types.proofs.handle.HandleDeserializeTerm.read_value.
 pub returns-in_err-read_uint-clause-read : goal.returns-in_err-read_uint-clause-read
 returns-in_err-read_uint-clause-read g c tells =
     let p = err_from_is_err_and c.from_residual.result c.from_residual.ensures.1 in
-    rw (p.1, p.2) (newtype_refused uint_base (λ n. n) (λ v. v.0) _ _ _ (c.in_err-read_uint.ensures.read tells))
+    rw (p.1, p.2) (newtype_refused uint_base (λ n. n) (λ v. v.0) _ _ _ (c.in_err-read_uint.ensures.read tells) c.in_err-read_uint.ensures.place)

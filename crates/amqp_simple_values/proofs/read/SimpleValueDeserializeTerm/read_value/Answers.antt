@@ -1,6 +1,8 @@
 use Rattle.std.proofs.Common.{false, true, ◌∙◌, sym, ap}
 use Rattle.std.proofs.lemmas.Result.{err_from_is_err_and}
 use Rattle.amqp_decoder.specs.Reading.{PeeksCode, BeginFault}
+use Rattle.amqp_decoder.specs.Places.{Here}
+use Rattle.amqp_decoder.proofs.Places.{refused_here}
 use Rattle.amqp_codec.specs.laws.Refusal.{no_memory, refused_first}
 use Rattle.amqp_codec.specs.laws.Peek.{value_peeked}
 use Rattle.amqp_codec.specs.EitherMeaning.{no_value}
@@ -12,12 +14,13 @@ use Rattle.amqp_simple_values.proofs.read.SimpleValueDeserializeTerm.read_value.
 pub returns-in_err-code-clause-read : goal.returns-in_err-code-clause-read
 returns-in_err-code-clause-read g c tells =
     let p = err_from_is_err_and c.from_residual.result c.from_residual.ensures.1 in
-    rw (p.1, p.2) (refused_first PeeksCode BeginFault _ _ _ _ _ no_memory no_value (value_peeked _ _) (c.in_err-code.ensures.read tells))
+    rw (p.1, p.2) (refused_first PeeksCode (Here BeginFault) _ _ _ _ _ no_memory (λ _. no_value) (value_peeked _ _)
+    (refused_here (c.in_err-code.ensures.read tells) c.in_err-code.ensures.place))
 
 pub returns-then-is_container-clause-read : goal.returns-then-is_container-clause-read
 returns-then-is_container-clause-read g c tells =
     container_refused _ _ _ (c.in_ok-code.ensures.read tells)
-    (sym (ap is_container c.kind_of.ensures) ∙ sym c.is_container.ensures ∙ c.if-is_container.true) _ _ c.refuse.ensures.first
+    (sym (ap is_container c.kind_of.ensures) ∙ sym c.is_container.ensures ∙ c.if-is_container.true) _ _ c.refuse.ensures.first c.refuse.ensures.place
 
 pub returns-in_err-value-clause-read : goal.returns-in_err-value-clause-read
 returns-in_err-value-clause-read g c tells =

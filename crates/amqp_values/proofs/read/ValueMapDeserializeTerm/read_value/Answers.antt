@@ -6,11 +6,12 @@ use Rattle.amqp_values.specs.ValueType.{value_type}
 use Rattle.amqp_values.proofs.MapReads.{as_map, map_refused, row_any, row_refused_any, map_bounded}
 use Rattle.amqp_codec.proofs.Tries.{taking_some, began_passed, refused_more, refused_behind}
 use Rattle.amqp_values.proofs.read.ValueMapDeserializeTerm.read_value.Goals as goal
+use Rattle.amqp_decoder.proofs.Places.{refused_here}
 
 pub returns-in_err-count-clause-read : goal.returns-in_err-count-clause-read
 returns-in_err-count-clause-read g c tells =
     let p = err_from_is_err_and c.from_residual.result c.from_residual.ensures.1 in
-    rw (p.1, p.2) (map_refused _ _ _ (maps.open_refused value_type value_type _ _ _ (c.in_err-count.ensures.read tells)))
+    rw (p.1, p.2) (map_refused _ _ _ (maps.open_refused value_type value_type _ _ _ (refused_here (c.in_err-count.ensures.read tells) c.in_err-count.ensures.place)))
 
 pub returns-in_err-pairs-clause-read : goal.returns-in_err-pairs-clause-read
 returns-in_err-pairs-clause-read g c tells =
@@ -30,7 +31,7 @@ returns-in_err-end_map-clause-read g c tells =
     let row = row_any 128 (c.in_ok-count.count / 2) _ c.in_ok-pairs.pairs.items _ (c.in_ok-pairs.ensures.read tells bounded) in
     rw (p.1, p.2)
     (map_refused _ _ _
-    (maps.end_refused value_type value_type _ _ _ c.in_ok-pairs.pairs.items _ _ _ (by_two opened) row (c.in_err-end_map.ensures.read tells)))
+    (maps.end_refused value_type value_type _ _ _ c.in_ok-pairs.pairs.items _ _ _ (by_two opened) row (refused_here (c.in_err-end_map.ensures.read tells) c.in_err-end_map.ensures.place)))
 
 pub returns-clause-read : goal.returns-clause-read
 returns-clause-read g c tells =
