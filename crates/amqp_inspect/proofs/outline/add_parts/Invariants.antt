@@ -1,0 +1,6 @@
+use Rattle.std.proofs.Common.{ℕ}
+use Rattle.amqp_inspect.specs.Outlines.{Grows}
+use Rattle.amqp_inspect.proofs.outline.add_parts.Given as goal
+
+abbrev pub invariant-values : goal.invariant-values
+invariant-values l = (n : ℕ) → Grows n l.fn.entries.items l.fn.opened.items → Grows n l.entries.items l.opened.items
