@@ -2,31 +2,17 @@
 use crate::limits::Bounds;
 use amqp_lines::TypeName;
 use anyhow::bail;
+use clap::{Arg, ArgGroup, ArgMatches, Command, arg, value_parser};
+use std::alloc::{AllocError, Global};
 
-/// How the program is called.
-pub(crate) const USAGE: &str =
-    "usage: amqp-inspect [--frames | --message | --strict | --term | --type NAME] [--hex] [--json] [--max-frame N]
-                    [--nesting N] [--bytes N] [--items N] < bytes
+const ABOUT: &str =
+    "Tells what the bytes of AMQP 1.0 are: frames, a message, or a term of any type";
 
-It tells what the bytes of AMQP 1.0 are: frames, a message, or a term of any type. Without one of the first five options, their first bytes
-decide.
+const USAGE: &str = "amqp-inspect [OPTIONS] < BYTES";
 
-  --frames       what one side of a connection sends: protocol headers and frames
-  --message      one message, as its sections
-  --strict       one message whose sections are in the standard's order, each kind at most once but for those of the body
-  --term         one term of any type
-  --type NAME    one value of a type, as open, source or message-id
-  --hex          the input is hexadecimal digits, with any white space, comments from # to the end of the line, and the offsets of xxd and
-                 tcpdump -x
-  --json         one line of JSON for each frame, section or term
-  --max-frame N  the most bytes of a frame; without it there is no limit
-  --nesting N    how deep values may nest, at most 128
-  --bytes N      the most bytes of a value; without it there is no limit
-  --items N      the most items of a value; without it, 65536 and four for each byte
-  --help         this text
+const AFTER_HELP: &str = "Without an option for what the input is, its first bytes decide.
 
-The status is 0 if all is well, 1 if there is a fault, and 2 if the arguments are wrong.
-";
+The status is 0 if all is well, 1 if there is a fault, and 2 if the arguments are wrong.";
 
 /// What the input is.
 #[derive(Clone, Copy, Debug, PartialEq, Eq)]
@@ -38,132 +24,128 @@ pub(crate) enum Form {
     Type(TypeName),
 }
 
+/// What is printed.
+#[derive(Clone, Copy, Debug, PartialEq, Eq)]
+pub(crate) enum Answer {
+    Text,
+    Json,
+    Html,
+}
+
 /// What the arguments ask for.
 #[derive(Clone, Copy, Debug, PartialEq, Eq)]
 pub(crate) struct Options {
     pub(crate) form: Option<Form>,
     pub(crate) hex: bool,
-    pub(crate) json: bool,
-    pub(crate) help: bool,
+    pub(crate) answer: Answer,
     pub(crate) max_frame_size: u32,
     pub(crate) bounds: Bounds,
 }
 
+/// Returns the command line of the program. The names are those that `--type` takes.
+pub(crate) fn command<'a>(
+    names: &'a [&'a str],
+    alloc: Global,
+) -> Result<Command<'a>, AllocError> {
+    let command = Command::new(alloc, "amqp-inspect")
+        .about(ABOUT)
+        .override_usage(USAGE)
+        .after_help(AFTER_HELP);
+    let command = with_forms(command, names, alloc)?;
+    let command = with_answers(command, alloc)?;
+    with_limits(command, alloc)
+}
+
+// What the input is.
+fn with_forms<'a>(
+    command: Command<'a>,
+    names: &'a [&'a str],
+    alloc: Global,
+) -> Result<Command<'a>, AllocError> {
+    let named = Arg::new(alloc, "type")
+        .long("type")
+        .value_name("NAME")
+        .value_parser(names)
+        .hide_possible_values(true)
+        .help("One value of a type, as open, source or message-id");
+    let forms = ArgGroup::new(alloc, "form")
+        .args(["frames", "message", "strict", "term", "type"].as_slice())?;
+    command
+        .arg(arg!(in alloc; --frames "What one side of a connection sends: protocol headers and frames"))?
+        .arg(arg!(in alloc; --message "One message, as its sections"))?
+        .arg(arg!(in alloc; --strict "One message, with its sections in the standard's order"))?
+        .arg(arg!(in alloc; --term "One term of any type"))?
+        .arg(named)?
+        .group(forms)
+}
+
+// How the input is written, and what is printed of it.
+fn with_answers<'a>(command: Command<'a>, alloc: Global) -> Result<Command<'a>, AllocError> {
+    let answers = ArgGroup::new(alloc, "answer").args(["json", "html"].as_slice())?;
+    command
+        .arg(arg!(in alloc; --hex "The input is hexadecimal digits, with any white space, comments from # to the end of the line, and the offsets of xxd and tcpdump -x"))?
+        .arg(arg!(in alloc; --json "Print a line of JSON for each frame, section or term"))?
+        .arg(arg!(in alloc; --html "Print a page for a browser, with the bytes beside the values"))?
+        .group(answers)
+}
+
+// What frames and values may have at most.
+fn with_limits<'a>(command: Command<'a>, alloc: Global) -> Result<Command<'a>, AllocError> {
+    let max_frame = arg!(in alloc; --"max-frame" <N> "The most bytes of a frame, at least 512; without it there is no limit")
+        .value_parser(value_parser!(u32).range(512..));
+    let nesting = arg!(in alloc; --nesting <N> "How deep values may nest, at most 128")
+        .value_parser(value_parser!(u32).range(..129));
+    let bytes = arg!(in alloc; --bytes <N> "The most bytes of a value; without it there is no limit")
+        .value_parser(value_parser!(u64));
+    let items = arg!(in alloc; --items <N> "The most items of a value; without it 65536, and four for each byte")
+        .value_parser(value_parser!(u64));
+    command.arg(max_frame)?.arg(nesting)?.arg(bytes)?.arg(items)
+}
+
 impl Options {
-    /// What is asked for without arguments.
-    pub(crate) const DEFAULT: Options = Options {
-        form: None,
-        hex: false,
-        json: false,
-        help: false,
-        max_frame_size: u32::MAX,
-        bounds: Bounds::DEFAULT,
-    };
-
-    /// Returns what the arguments ask for.
-    pub(crate) fn new(arguments: &[String]) -> Result<Options, anyhow::Error> {
-        let mut options = Options::DEFAULT;
-        let mut rest = arguments;
-        for _ in 0..arguments.len() {
-            let Some((argument, later)) = rest.split_first() else {
-                break;
-            };
-            let has_value = options.take(argument.as_str(), first_text(later))?;
-            rest = if has_value {
-                later.get(1..).unwrap_or_default()
-            } else {
-                later
-            };
-        }
-        Ok(options)
-    }
-
-    // Takes an argument, with the one after it if it has a value. It returns whether it has.
-    fn take(&mut self, argument: &str, next: Option<&str>) -> Result<bool, anyhow::Error> {
-        match argument {
-            "--hex" => self.hex = true,
-            "--json" => self.json = true,
-            "--help" => self.help = true,
-            "--frames" => self.set_form(Form::Frames)?,
-            "--message" => self.set_form(Form::Message)?,
-            "--strict" => self.set_form(Form::Strict)?,
-            "--term" => self.set_form(Form::Term)?,
-            _ => return self.take_valued(argument, next),
-        }
-        Ok(false)
-    }
-
-    // Takes an argument that has a value.
-    fn take_valued(&mut self, argument: &str, next: Option<&str>) -> Result<bool, anyhow::Error> {
-        match argument {
-            "--type" => self.set_form(Form::Type(type_of(next)?))?,
-            "--max-frame" => self.max_frame_size = size_of(next)?,
-            "--nesting" => self.bounds.nesting = nesting_of(next)?,
-            "--bytes" => self.bounds.bytes = number_of(argument, next)?,
-            "--items" => self.bounds.items = Some(number_of(argument, next)?),
-            _ => bail!("there is no option {argument}"),
-        }
-        Ok(true)
-    }
-
-    // Sets what the input is. It may be set once.
-    fn set_form(&mut self, form: Form) -> Result<(), anyhow::Error> {
-        if self.form.is_some() {
-            bail!("only one of --frames, --message, --strict, --term and --type can be given");
-        }
-        self.form = Some(form);
-        Ok(())
+    /// Returns what the matches of the command line ask for.
+    pub(crate) fn new(matches: &ArgMatches<'_>) -> Result<Options, anyhow::Error> {
+        Ok(Options {
+            form: form_of(matches)?,
+            hex: matches.get_flag("hex"),
+            answer: answer_of(matches),
+            max_frame_size: matches.get_one::<u32>("max-frame").unwrap_or(u32::MAX),
+            bounds: bounds_of(matches),
+        })
     }
 }
 
-// The first of the arguments.
-fn first_text(arguments: &[String]) -> Option<&str> {
-    match arguments.first() {
-        Some(argument) => Some(argument.as_str()),
-        None => None,
+fn form_of(matches: &ArgMatches<'_>) -> Result<Option<Form>, anyhow::Error> {
+    if let Some(name) = matches.get_str("type") {
+        return match TypeName::from_bytes(name.as_bytes()) {
+            Some(named) => Ok(Some(Form::Type(named))),
+            None => bail!("there is no type {name}"),
+        };
+    }
+    let flags = [
+        ("frames", Form::Frames),
+        ("message", Form::Message),
+        ("strict", Form::Strict),
+        ("term", Form::Term),
+    ];
+    let given = flags.iter().find(|flag| matches.get_flag(flag.0));
+    Ok(given.map(|flag| flag.1))
+}
+
+fn answer_of(matches: &ArgMatches<'_>) -> Answer {
+    if matches.get_flag("json") {
+        Answer::Json
+    } else if matches.get_flag("html") {
+        Answer::Html
+    } else {
+        Answer::Text
     }
 }
 
-// The type that the argument names.
-fn type_of(argument: Option<&str>) -> Result<TypeName, anyhow::Error> {
-    let Some(name) = argument else {
-        bail!("--type needs the name of a type")
-    };
-    match TypeName::from_bytes(name.as_bytes()) {
-        Some(named) => Ok(named),
-        None => bail!("there is no type {name}"),
-    }
-}
-
-// The most bytes of a frame, which is at least 512 (Part 2, section 2.7.1).
-fn size_of(argument: Option<&str>) -> Result<u32, anyhow::Error> {
-    let Some(text) = argument else {
-        bail!("--max-frame needs a number")
-    };
-    match text.parse::<u32>() {
-        Ok(size) if size >= 512 => Ok(size),
-        _ => bail!("--max-frame needs a number from 512 to 4294967295, and not {text}"),
-    }
-}
-
-// How deep values may nest, which is at most 128.
-fn nesting_of(argument: Option<&str>) -> Result<u32, anyhow::Error> {
-    let Some(text) = argument else {
-        bail!("--nesting needs a number")
-    };
-    match text.parse::<u32>() {
-        Ok(nesting) if nesting <= 128 => Ok(nesting),
-        _ => bail!("--nesting needs a number from 0 to 128, and not {text}"),
-    }
-}
-
-// The number that the option has as its value.
-fn number_of(option: &str, argument: Option<&str>) -> Result<u64, anyhow::Error> {
-    let Some(text) = argument else {
-        bail!("{option} needs a number")
-    };
-    match text.parse::<u64>() {
-        Ok(number) => Ok(number),
-        Err(_) => bail!("{option} needs a number from 0 to 18446744073709551615, and not {text}"),
+fn bounds_of(matches: &ArgMatches<'_>) -> Bounds {
+    Bounds {
+        nesting: matches.get_one::<u32>("nesting").unwrap_or(Bounds::DEFAULT.nesting),
+        bytes: matches.get_one::<u64>("bytes").unwrap_or(Bounds::DEFAULT.bytes),
+        items: matches.get_one::<u64>("items"),
     }
 }

@@ -1,4 +1,5 @@
 //! Blocks: what is printed together.
+use crate::colours::Colours;
 use crate::entry::Entry;
 use crate::fault::Fault;
 use amqp_frames::{FrameKind, ProtocolHeader};
@@ -64,11 +65,12 @@ pub(crate) fn some_span(from: usize, to: usize) -> Option<Span> {
     if from < to { Some((from, to)) } else { None }
 }
 
-/// The bytes of a block, and where they begin in the input.
+/// The bytes of a block, where they begin in the input, and how text about them is coloured.
 #[derive(Clone, Copy)]
 pub(crate) struct Part<'a> {
     pub(crate) bytes: &'a [u8],
     pub(crate) base: usize,
+    pub(crate) colours: Colours,
 }
 
 impl Part<'_> {

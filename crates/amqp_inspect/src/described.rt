@@ -9,6 +9,7 @@ use amqp_lines::types::{
 };
 use amqp_lines::{TypeName, types};
 use amqp_nodes::{Node, next_node};
+use std::alloc::{AllocError, Global};
 
 /// The standard's names of the types, in the order of `TypeName`.
 const NAMES: &[(&str, TypeName)] = types!(names);
@@ -90,6 +91,11 @@ pub(crate) fn type_of_code(code: u64) -> Option<TypeName> {
         0x78 => TypeName::Footer,
         _ => return None,
     })
+}
+
+/// Returns the names of all types.
+pub(crate) fn names(alloc: Global) -> Result<Vec<&'static str>, AllocError> {
+    NAMES.iter().map(|row| row.0).collect(alloc)
 }
 
 /// Returns the standard's name of a type, as `open`.

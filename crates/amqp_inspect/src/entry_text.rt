@@ -1,6 +1,7 @@
 //! The entries of a block as lines of text.
 use crate::block::{Part, Span};
 use crate::canonical::{Head, Longer, longer_descriptor, longer_head};
+use crate::colours::Colours;
 use crate::defaults::default_of;
 use crate::described::{field_name, name_of};
 use crate::entry::{Entry, Label, Shape};
@@ -28,7 +29,7 @@ pub(crate) fn write_entries(
         if !in_line {
             write_margin(out, entry.depth.saturating_add(shift))?;
         }
-        write_label(out, &entry.label, &entry.shape, in_line)?;
+        write_label(out, part.colours, &entry.label, &entry.shape, in_line)?;
         write_shape(out, part, entry)?;
         in_line = is_short_key(entry);
         out.push_str(if in_line { ": " } else { "\n" })?;
@@ -59,6 +60,7 @@ fn is_short_key(entry: &Entry) -> bool {
 // What comes before a value.
 fn write_label(
     out: &mut String,
+    colours: Colours,
     label: &Label,
     shape: &Shape,
     in_line: bool,
@@ -66,7 +68,8 @@ fn write_label(
     match (*label, *shape) {
         (Label::Whole, _) | (Label::Key(_), Shape::Primitive(_)) => Ok(()),
         (Label::Field(named, index), _) => {
-            write!(out, "{}: ", field_name(named, index).unwrap_or_default())
+            let name = field_name(named, index).unwrap_or_default();
+            write!(out, "{}{name}{}: ", colours.name, colours.end)
         }
         (Label::Item(index), _) => write!(out, "[{index}]: "),
         (Label::Key(_), _) => out.push_str("key: "),
@@ -78,13 +81,14 @@ fn write_label(
 
 // A value: its content or its size, its type and its place.
 fn write_shape(out: &mut String, part: Part<'_>, entry: &Entry) -> Result<(), AllocError> {
+    let colours = part.colours;
     if let (Shape::Omitted, Label::Field(named, index)) = (entry.shape, entry.label) {
         let value = default_of(named, index).unwrap_or_default();
-        return write!(out, "{value} (default)");
+        return write!(out, "{}{value} (default){}", colours.faint, colours.end);
     }
     write_content(out, part, entry)?;
     if !entry.is_whole {
-        out.push_str("broken, ")?;
+        write!(out, "{}broken{}, ", colours.fault, colours.end)?;
     }
     write_span(out, part, (entry.from, entry.to))?;
     if let Some(descriptor) = longer_descriptor(part.bytes, entry) {
@@ -116,7 +120,10 @@ fn write_content(out: &mut String, part: Part<'_>, entry: &Entry) -> Result<(), 
             write_array(out, type_name(kind), is_described, count)
         }
         Shape::Array(_, _) => write_count(out, "array", count, "item"),
-        Shape::Named(named, _) => write!(out, "{} (", name_of(named)),
+        Shape::Named(named, _) => {
+            let colours = part.colours;
+            write!(out, "{}{}{} (", colours.heading, name_of(named), colours.end)
+        }
         Shape::Described => out.push_str("described value ("),
     }
 }
@@ -125,12 +132,18 @@ fn write_content(out: &mut String, part: Part<'_>, entry: &Entry) -> Result<(), 
 fn write_longer(out: &mut String, part: Part<'_>, longer: &Longer) -> Result<(), AllocError> {
     let bytes = part.bytes.get(longer.from..longer.to).unwrap_or_default();
     let shown = bytes.get(..MOST_BYTES).unwrap_or(bytes);
+    out.push_str(part.colours.longer)?;
     write_spaced(out, shown)?;
     if bytes.len() > MOST_BYTES {
         out.push_str(" ..")?;
     }
     out.push_str(", canonical ")?;
-    match longer.canonical {
+    write_canonical(out, &longer.canonical)?;
+    out.push_str(part.colours.end)
+}
+
+fn write_canonical(out: &mut String, head: &Head) -> Result<(), AllocError> {
+    match *head {
         Head::One(a) => write_spaced(out, &[a]),
         Head::Two(a, b) => write_spaced(out, &[a, b]),
         Head::Three(a, b, c) => write_spaced(out, &[a, b, c]),

@@ -1,5 +1,6 @@
 //! Blocks as text.
 use crate::block::{Block, Part, Span, Subject};
+use crate::colours::Colours;
 use crate::described::name_of;
 use crate::entry::{Entry, Shape};
 use crate::entry_text::{write_entries, write_span};
@@ -39,9 +40,15 @@ pub(crate) fn write_block(
 
 // A line of a span.
 fn write_line(out: &mut String, part: Part<'_>, name: &str, span: Span) -> Result<(), AllocError> {
-    write!(out, "{name}: ")?;
+    write_heading(out, part, name)?;
     write_span(out, part, span)?;
     out.push('\n')
+}
+
+// What begins a line that others belong to.
+fn write_heading(out: &mut String, part: Part<'_>, name: &str) -> Result<(), AllocError> {
+    let colours = part.colours;
+    write!(out, "{}{name}{}: ", colours.heading, colours.end)
 }
 
 fn write_header(
@@ -50,7 +57,7 @@ fn write_header(
     span: Span,
     header: ProtocolHeader,
 ) -> Result<(), AllocError> {
-    out.push_str("protocol header: ")?;
+    write_heading(out, part, "protocol header")?;
     write_span(out, part, span)?;
     let (major, minor, revision) = (header.major, header.minor, header.revision);
     let ProtocolId(id) = header.id;
@@ -78,14 +85,15 @@ fn write_frame(
     block: &Block,
     kind: FrameKind,
 ) -> Result<(), AllocError> {
-    out.push_str("frame: ")?;
+    write_heading(out, part, "frame")?;
     write_span(out, part, (0, block.len))?;
     match kind {
         FrameKind::Amqp { channel } => write!(out, ", channel {channel}")?,
         FrameKind::Sasl => out.push_str(", SASL")?,
     }
     let (name, entries, shift) = headed(block);
-    writeln!(out, ", {name}")?;
+    let colours = part.colours;
+    writeln!(out, ", {}{name}{}", colours.heading, colours.end)?;
     if let Some(extended) = block.extended {
         write_line(out, part, "  extended header", extended)?;
     }
@@ -115,9 +123,10 @@ fn headed(block: &Block) -> (&'static str, &[Entry], usize) {
 
 // A fault: the sentence, the path, and the bytes around the place.
 fn write_fault(out: &mut String, part: Part<'_>, fault: &Fault) -> Result<(), AllocError> {
+    let Colours { fault: red, end, .. } = part.colours;
     let cause = fault.cause;
     let at = part.place(fault.at);
-    writeln!(out, "  fault: {cause} at byte {at} ({})", cause.name())?;
+    writeln!(out, "  {red}fault: {cause} at byte {at} ({}){end}", cause.name())?;
     if !fault.path.is_empty() {
         writeln!(out, "    path: {}", fault.path)?;
     }
@@ -140,5 +149,5 @@ fn write_around(out: &mut String, part: Part<'_>, at: usize) -> Result<(), Alloc
     for _ in 0..margin.saturating_add(columns).saturating_add(1) {
         out.push(' ')?;
     }
-    out.push_str("^^\n")
+    writeln!(out, "{}^^{}", part.colours.fault, part.colours.end)
 }
