@@ -206,8 +206,11 @@ module _ {M V : Type 0} (w : Walk M V) where
       record {
         kept = answered_later s.sound (first_kept {st = here} going refused);
         again = λ d x. (let g = u.0 in absurd (cc));
-        named = λ _. inr (length here.rest, not_made h.number m h.last h.steps left (subst (w.unfinished m) (sym is) f)
-            (ap length (alike_rest h.last here (alike_trans h.last mid here h.here a))),
-            before_later st here (length here.rest) new s.sound (at going));
+        named = λ _. inr (
+          length here.rest,
+          not_made h.number m h.last h.steps left (subst (w.unfinished m) (sym is) f)
+              (ap length (alike_rest h.last here (alike_trans h.last mid here h.here a))),
+          before_later st here (length here.rest) new s.sound (at going),
+        );
         none = inr (none_made st m mid here error h a d f);
       }

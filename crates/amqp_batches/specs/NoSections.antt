@@ -41,8 +41,11 @@ no_section_within st e (other_descriptor a d i place) = omega (arith, place)
 pub no_section_elsewhere : (source : Source) (failed : Bool) (st : State) (e : Located) → NoSection st e
     → NoSection (elsewhere source failed st) e
 no_section_elsewhere source failed st e (no_code f) =
-    no_code (subst (λ x. BeginFault x e.error) (another_is source failed st)
-    (begin_fault (another source failed) (keeps_another source failed e.error) f.0), f.1)
+    no_code (
+      subst (λ x. BeginFault x e.error) (another_is source failed st)
+          (begin_fault (another source failed) (keeps_another source failed e.error) f.0),
+      f.1,
+    )
 no_section_elsewhere source failed st e (other_value {c} {m} b n i place) =
     other_value {m = elsewhere source failed m}
     (subst (λ x. ReadsCode x c (elsewhere source failed m)) (another_is source failed st)

@@ -167,8 +167,11 @@ module _ {V : Type 0} (fs : Fields V) where
       record {
         kept = answered_later (so_far_failed st n i v mid h) (first_kept {st = mid} going refused);
         again = λ d x. absurd (let y = so_far_going st n i v mid h in cc);
-        named = λ _. inr (length mid.rest, left_out h l k is refl,
-            before_later st mid (length mid.rest) new (so_far_failed st n i v mid h) (here going));
+        named = λ _. inr (
+          length mid.rest,
+          left_out h l k is refl,
+          before_later st mid (length mid.rest) new (so_far_failed st n i v mid h) (here going),
+        );
         none = inr (λ w b q.
             let g = further st n i v w mid b h q in
             fits_null fs i q.terms w Mandatory q.fits k (absent (rule_at fs i) e is)
@@ -245,8 +248,11 @@ module _ {V : Type 0} (fs : Fields V) (i : ℕ) where
       record {
         kept = answered_later (ap (λ (x : State). x.failed) h.moved) (first_kept {st = b} (value_going h) refused);
         again = λ d x. absurd (let going = h.stands.going in cc);
-        named = λ _. inr (suc (length b.rest), null_item h is refl,
-            before_later st b (suc (length b.rest)) new (ap (λ (x : State). x.failed) h.moved) (before (value_going h)));
+        named = λ _. inr (
+          suc (length b.rest),
+          null_item h is refl,
+          before_later st b (suc (length b.rest)) new (ap (λ (x : State). x.failed) h.moved) (before (value_going h)),
+        );
         none = inr (λ w c k.
             let o = stands_same st h.bytes k.bytes h.term k.term h.stands k.stands in
             let z : is_null k.term ≡ true = ap is_null (sym o.1 ∙ h.meant) in

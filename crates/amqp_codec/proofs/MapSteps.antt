@@ -113,9 +113,11 @@ module _ {K V : Type 0} (key : TermType K) (value : TermType V) where
           each = s.before;
         } in
         twice_behind st t.before s.mid t.pair.0 s.after e new h t.others s.at_key t.known
-        (answered_later still.1 (first_kept {st = b} going refused))
-        (length b.rest, told_twice ps b t.before s.mid s.after t.pair.0 each h t.others s.at_key t.known (refused going).0 refl,
-            before_later st b (length b.rest) new still.1 (here going))
+        (answered_later still.1 (first_kept {st = b} going refused)) (
+          length b.rest,
+          told_twice ps b t.before s.mid s.after t.pair.0 each h t.others s.at_key t.known (refused going).0 refl,
+          before_later st b (length b.rest) new still.1 (here going),
+        )
 
     -- or its value wasn't read,
     pub value_refused : {takes : Bool} (st : State) (ps : List (K × V)) (mid : State) (k : K) (after : State) (e : Error) (new : State)

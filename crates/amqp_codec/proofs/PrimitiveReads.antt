@@ -29,7 +29,7 @@ pub primitive_read : {A V : Type 0} (takes : Bool) (base : Base A) (to : V → A
     → AnswersAt takes (ReadsValue (λ s t v. MeansExactly (IsOf base) (λ v. leaf (base.make v)) s t (to v))) (Here (PrimitiveFault base.kind))
     old r new
 primitive_read takes base to old r new of h here =
-    kind_read takes (λ v. base.make (to v)) (λ v. IsOf base (to v)) base.kind old r new of 
+    kind_read takes (λ v. base.make (to v)) (λ v. IsOf base (to v)) base.kind old r new of
     (answered_here takes (ReadsValue (Means (λ v. base.make (to v)))) (PrimitiveFault base.kind) old r new h here)
 
 pub when_ok : {A E : Type 0} (P : A → Type 0) → ((v : A) → P v) → (r : Result A E) → IfOk r P

@@ -49,5 +49,9 @@ fn mandatory_fields_of_a_transfer(rt: HostRuntime) -> Result<(), Fail> {
 #[test]
 fn mandatory_fields_of_a_disposition(rt: HostRuntime) -> Result<(), Fail> {
     let alloc = rt.alloc();
-    check_made(Ok(Disposition::new(Role::Receiver, 5)), "005315c00402415205", alloc)
+    check_made(
+        Ok(Disposition::new(Role::Receiver, 5)),
+        "005315c00402415205",
+        alloc,
+    )
 }

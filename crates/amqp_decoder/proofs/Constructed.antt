@@ -271,8 +271,11 @@ pub stopped_unknown : (st : State) (ds : List Descriptor) (c : ℕ) (m : State) 
     → StopsAt true (At constructor_left st) st e new
 stopped_unknown st ds c m e new t (some, never, is, kept) p = record {
   kept = answered_took t.took kept;
-  why = inr (suc (length m.rest), (no_known_code ds c m t some never is, refl),
-      before_later st m (suc (length m.rest)) new (took_failed st m (t.own ++ (c ∷ [])) t.took) p);
+  why = inr (
+    suc (length m.rest),
+    (no_known_code ds c m t some never is, refl),
+    before_later st m (suc (length m.rest)) new (took_failed st m (t.own ++ (c ∷ [])) t.took) p,
+  );
 }
 
 pub more_named : (st : State) (l l' : DescriptorValues) (m : State) (new : State) → st.top.shared ≡ None

@@ -358,8 +358,11 @@ pub one_other : (members : List Member) (st : State) (m : State) (named : State)
     → RefusesAt false (OpensOneOf members) (At (one_of_left members)) st e new
 one_other members st m named e place new g t is kept there at =
     one_refused members st m e new g (answered_took t.took.took kept)
-    (inr (length m.rest, (no_member g t is, refl),
-        before_later st m (length m.rest) new (begun_failed g) (before_at m (length m.rest) _ new there at)))
+    (inr (
+      length m.rest,
+      (no_member g t is, refl),
+      before_later st m (length m.rest) new (begun_failed g) (before_at m (length m.rest) _ new there at),
+    ))
 
 -- what was named nests as deep as what was begun
 pub no_deeper : (m named : State) (s : List ℕ) → Takes m s named → length m.saved < m.nesting → named.nesting ≤ length named.saved → ⊥

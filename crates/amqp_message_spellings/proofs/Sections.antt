@@ -102,9 +102,22 @@ next_section b c cs more named bytes rest (first, others, e, (ahead, (t, spelled
 
 module _ {S B : Type 0} (made : Made S B) (group : Spells S) (of_sections : AreOfSections group) where
   all_kinds : AllOfSections (kinds made group)
-  all_kinds =
-      (term_of_sections _, (term_of_sections _, (term_of_sections _, (term_of_sections _, (term_of_sections _,
-      (of_sections, (term_of_sections _, tt)))))))
+  all_kinds = (
+    term_of_sections _,
+    (
+      term_of_sections _,
+      (
+        term_of_sections _,
+        (
+          term_of_sections _,
+          (
+            term_of_sections _,
+            (of_sections, (term_of_sections _, tt)),
+          ),
+        ),
+      ),
+    ),
+  )
 
   pub message_sections : (b : List ℕ) (v : _) (more : List ℕ) → IsMessage made group b v more → HasSections b more
   message_sections b v more h = groups_sections (kinds made group) all_kinds h.groups b more h.are

@@ -100,9 +100,9 @@ module _ {T : Type 0} (limits : Limits) (r : Reading T) (input : List ℕ) (sour
   placed (Err x) b whole h broken e place there = elim (faulty_here x b whole h) [
     | inl m ↦ inl m
     | inr y ↦ elim y [
-        | inl f ↦ inr (inl (f.0, e ∙ f.1))
-        | inr f ↦ inr (inr (subst (HasFaultAt limits r input x) (sym there) f))
-      ]
+      | inl f ↦ inr (inl (f.0, e ∙ f.1))
+      | inr f ↦ inr (inr (subst (HasFaultAt limits r input x) (sym there) f))
+    ]
   ]
 
 -- Whatever the source tells: where it begins to fail, that is never hidden behind another error,
@@ -162,14 +162,14 @@ placed_whole limits r input e b sound h at is small short =
     elim (faulty_here limits r input (fresh_source 0 input) false e b refl h) [
       | inl m ↦ inl m
       | inr x ↦ elim x [
-          | inl f ↦ let broken = f.1 in absurd (cc)
-          | inr f ↦ inr (
-              f.0,
-              f.1,
-              (let few = r.within (start_within limits input) (record { error = e; left = f.0 }) f.1 in
-                  let z = placed_within b.source.fault f.0 (length input) small short f.2 few in omega (arith, z, is)),
-            )
-        ]
+        | inl f ↦ let broken = f.1 in absurd (cc)
+        | inr f ↦ inr (
+          f.0,
+          f.1,
+          (let few = r.within (start_within limits input) (record { error = e; left = f.0 }) f.1 in
+              let z = placed_within b.source.fault f.0 (length input) small short f.2 few in omega (arith, z, is)),
+        )
+      ]
     ]
 
 -- no limit is passed where none is set
@@ -234,11 +234,11 @@ module _ {T : Type 0} (r : Reading T) (st : State) (shared : st.failed.alone ≡
     named = λ g. elim (h.named g) [
       | inl x ↦ inl x
       | inr (left, f, p) ↦ inr (
-          left,
-          subst (λ (x : Bool). r.fault (apart x st) (record { error = e; left = left })) (sym shared)
-              (r.fault_alone one false (apart true st) (record { error = e; left = left }) f),
-          p,
-        )
+        left,
+        subst (λ (x : Bool). r.fault (apart x st) (record { error = e; left = left })) (sym shared)
+            (r.fault_alone one false (apart true st) (record { error = e; left = left }) f),
+        p,
+      )
     ];
     none = elim h.none [ inl x ↦ inl x | inr x ↦ inr (λ v c k. x v (apart true c) (r.reads_alone one true st v c k)) ];
   }

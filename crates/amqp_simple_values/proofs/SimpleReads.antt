@@ -83,8 +83,11 @@ module _ (st : State) (c : ℕ) (mid : State) (p : PeeksCode st c mid) where
       record {
         kept = answered_later (peeked_failed st c mid p) (first_kept {st = mid} going.1 refused);
         again = λ d x. absurd (cc (going.0, x));
-        named = λ _. inr (length mid.rest, in_first p is (invalid, refl),
-            before_later st mid (length mid.rest) new (peeked_failed st c mid p) (here going.1));
+        named = λ _. inr (
+          length mid.rest,
+          in_first p is (invalid, refl),
+          before_later st mid (length mid.rest) new (peeked_failed st c mid p) (here going.1),
+        );
         none = inr (none_simple is);
       }
 

@@ -30,7 +30,7 @@ returns-in_err-end_described-clause-read g c tells =
     let names = ap₂ (λ a b. (a, b) ∷ []) c.descriptor.ensures.code c.descriptor.ensures.name in
     let p = err_from_is_err_and c.from_residual-in_err-end_described.result c.from_residual-in_err-end_described.ensures.1 in
     rw (p.1, p.2) (unended (composite_members t) (λ s. MeansComposite (table_of t)) (composite_is_sum t) (c.descriptor.result ∷ []) _
-    _ _ _ _ _ _ names (c.in_ok-begin_one_of.ensures.opened tells) (c.in_ok-fill_fields.ensures.read c.blank-value.ensures tells) 
+    _ _ _ _ _ _ names (c.in_ok-begin_one_of.ensures.opened tells) (c.in_ok-fill_fields.ensures.read c.blank-value.ensures tells)
     (refused_here c.in_err-end_described.ensures.read c.in_err-end_described.ensures.place))
 
 pub returns-clause-read : goal.returns-clause-read

@@ -26,7 +26,7 @@ returns-in_err-end_array-clause-read g c tells =
     let p = err_from_is_err_and c.from_residual-in_err-end_array.result c.from_residual-in_err-end_array.ensures.1 in
     rw (p.1, p.2)
     (end_refused array_opening g.T.DeserializeTerm.term (λ v. v.0.items) _ _ _ (record { 0 = c.in_ok-items.items }) _ _ _
-    c.begin_array.ensures.room (c.in_ok-count.ensures.opened tells) (c.in_ok-items.ensures.read tells) 
+    c.begin_array.ensures.room (c.in_ok-count.ensures.opened tells) (c.in_ok-items.ensures.read tells)
     (refused_here (c.in_err-end_array.ensures.read tells) c.in_err-end_array.ensures.place))
 
 pub returns-clause-read : goal.returns-clause-read
