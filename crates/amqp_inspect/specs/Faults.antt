@@ -19,3 +19,8 @@ IsVerdict {T} limits r bytes (Refused refusal) =
 abbrev pub IsTermVerdict : List ℕ → Verdict → Type 0
 IsTermVerdict bytes (Value n) = IsFront (IsTerm 128) bytes n
 IsTermVerdict bytes (Refused refusal) = NoFront (IsTerm 128) bytes × StandsAt bytes refusal.error refusal.at
+
+-- The value, or the place of the fault, is in the first n bytes.
+abbrev pub EndsWithin : ℕ → Verdict → Type 0
+EndsWithin n (Value len) = len ≤ n
+EndsWithin n (Refused refusal) = refusal.at ≤ n

@@ -1,9 +1,13 @@
 //! Blocks: what is printed together.
+ghost use Rattle.std.specs.Prelude.{◌≡◌, ◌≤◌, ℕ, IfOk, IfSome};
+ghost use Rattle.amqp_inspect.specs.Blocks.{IsBlock, IsSpan, StandsWithin};
+ghost use Rattle.amqp_inspect.specs.Spans.{IsOutline};
+
 use crate::colours::Colours;
 use crate::entry::Entry;
 use crate::fault::Fault;
 use amqp_frames::{FrameKind, ProtocolHeader};
-use std::alloc::Global;
+use std::alloc::{AllocError, Global};
 
 /// A range of bytes: the place of its first byte, and the place behind its last one.
 pub(crate) type Span = (usize, usize);
@@ -47,7 +51,9 @@ pub(crate) struct Block {
 
 impl Block {
     /// A block without a value and without faults.
-    pub(crate) fn new(subject: Subject, len: usize, alloc: Global) -> Block {
+    pub(crate) fn new(subject: Subject, len: usize, alloc: Global) -> Block
+        ensures { IsBlock len result }
+    {
         Block {
             subject,
             len,
@@ -58,10 +64,59 @@ impl Block {
             faults: Vec::new(alloc),
         }
     }
+
+    /// The same of another subject.
+    pub(crate) fn of(self, subject: Subject) -> Block
+        ensures { (n : ℕ) → IsBlock n self → IsBlock n result }
+    {
+        Block { subject, ..self }
+    }
+
+    /// The same with these bytes of the header of a frame.
+    pub(crate) fn with_extended(self, extended: Option<Span>) -> Block
+        ensures { (n : ℕ) → IsBlock n self → IfSome extended (IsSpan n) → IsBlock n result }
+    {
+        Block { extended, ..self }
+    }
+
+    /// The same with this payload.
+    pub(crate) fn with_payload(self, payload: Option<Span>) -> Block
+        ensures { (n : ℕ) → IsBlock n self → IfSome payload (IsSpan n) → IsBlock n result }
+    {
+        Block { payload, ..self }
+    }
+
+    /// The same with the entries of its value.
+    pub(crate) fn with_value(mut self, value: Vec<Entry>) -> Block
+        ensures { (n : ℕ) → IsBlock n self.entry → IsOutline n value.items → IsBlock n result }
+    {
+        self.value = value;
+        self
+    }
+
+    /// The same with the entries of the sections in its payload.
+    pub(crate) fn with_message(mut self, message: Vec<Entry>) -> Block
+        ensures { (n : ℕ) → IsBlock n self.entry → IsOutline n message.items → IsBlock n result }
+    {
+        self.message = message;
+        self
+    }
+
+    /// The same with one more fault, if there is one.
+    pub(crate) fn with_fault(mut self, fault: Option<Fault>) -> Result<Block, AllocError>
+        ensures { (n : ℕ) → IsBlock n self.entry → IfSome fault (StandsWithin n) → IfOk result (IsBlock n) }
+    {
+        if let Some(fault) = fault {
+            self.faults.push(fault)?;
+        }
+        Ok(self)
+    }
 }
 
 /// Returns the span if it has a byte.
-pub(crate) fn some_span(from: usize, to: usize) -> Option<Span> {
+pub(crate) fn some_span(from: usize, to: usize) -> Option<Span>
+    ensures { (n : ℕ) → to ≤ n → IfSome result (IsSpan n) }
+{
     if from < to { Some((from, to)) } else { None }
 }
 

@@ -1,6 +1,7 @@
 //! Faults, each with its place and the path to it.
-ghost use Rattle.std.specs.Prelude.{◌≡◌, ◌+◌, ◌<◌, ◌^◌, IfOk};
-ghost use Rattle.amqp_inspect.specs.Faults.{IsVerdict, IsTermVerdict};
+ghost use Rattle.std.specs.Prelude.{◌≡◌, ◌+◌, ◌-◌, ◌<◌, ◌^◌, length, IfOk};
+ghost use Rattle.amqp_frames.specs.Tables.{place_of};
+ghost use Rattle.amqp_inspect.specs.Faults.{IsVerdict, IsTermVerdict, EndsWithin};
 
 use crate::path::path_text;
 use amqp_frames::FrameError;
@@ -71,7 +72,9 @@ pub(crate) struct Fault {
 
 impl Fault {
     /// A fault that is in no term.
-    pub(crate) fn at(cause: Cause, at: usize, alloc: Global) -> Fault {
+    pub(crate) fn at(cause: Cause, at: usize, alloc: Global) -> Fault
+        ensures { result.at ≡ at }
+    {
         Fault {
             cause,
             at,
@@ -81,7 +84,8 @@ impl Fault {
 
     /// A fault of the header of a frame.
     pub(crate) fn of_frame(error: FrameError, alloc: Global) -> Result<Fault, AllocError>
-        ensures { IfOk result (λ fault. fault.cause ≡ Cause.Frame error) }
+        ensures error { IfOk result (λ fault. fault.cause ≡ Cause.Frame error) }
+        ensures place { IfOk result (λ fault. fault.at ≡ place_of error) }
     {
         let at = error.at();
         Ok(Fault {
@@ -113,7 +117,9 @@ impl Fault {
 
 impl Fault {
     /// The fault, with a place that counts from so many bytes later.
-    pub(crate) fn moved_by(self, len: usize) -> Fault {
+    pub(crate) fn moved_by(self, len: usize) -> Fault
+        ensures { result.at ≡ self.at - len }
+    {
         let Fault { cause, at, path } = self;
         Fault {
             cause,
@@ -134,7 +140,8 @@ pub(crate) enum Verdict {
 
 /// Reads the bytes as a value of type T.
 pub(crate) fn verdict_of<T: Deserialize>(bytes: &[u8], limits: &Limits, alloc: Global) -> Verdict
-    ensures { IsVerdict limits.now T.reading bytes.now result }
+    ensures verdict { IsVerdict limits.now T.reading bytes.now result }
+    ensures within { EndsWithin (length bytes.now) result }
 {
     match from_slice_located::<T>(bytes, limits, alloc) {
         Ok(read) => {
@@ -148,7 +155,8 @@ pub(crate) fn verdict_of<T: Deserialize>(bytes: &[u8], limits: &Limits, alloc: G
 
 /// Reads the bytes as a term of any type (Part 1, section 1.2).
 pub(crate) fn verdict_of_term(bytes: &[u8]) -> Verdict
-    ensures { IsTermVerdict bytes.now result }
+    ensures verdict { IsTermVerdict bytes.now result }
+    ensures within { EndsWithin (length bytes.now) result }
 {
     match term_len_located(bytes) {
         Ok(len) => Verdict::Value(len),

@@ -1,4 +1,8 @@
 //! The protocol headers and frames of one direction of a connection (Part 2, sections 2.2 and 2.3; Part 5, section 5.3.1).
+ghost use Rattle.std.specs.Prelude.{◌≤◌, ⊥, length, IfOk, IfSome};
+ghost use Rattle.amqp_frames.specs.Tables.{place_of};
+ghost use Rattle.amqp_inspect.specs.Blocks.{BeginsInput, IsBlock, StandsWithin, IfRefused};
+
 use crate::block::{Block, Subject, some_span};
 use crate::fault::{Cause, Fault, Verdict, verdict_of};
 use crate::limits::Bounds;
@@ -33,7 +37,9 @@ enum Performed {
 }
 
 impl Performed {
-    fn of_transfer(is_whole_message: bool) -> Performed {
+    fn of_transfer(is_whole_message: bool) -> Performed
+        ensures { IfRefused (λ refusal. ⊥) result }
+    {
         if is_whole_message {
             Performed::WithMessage
         } else {
@@ -58,7 +64,9 @@ impl Frames {
         input: &[u8],
         is_end: bool,
         alloc: Global,
-    ) -> Result<Option<Block>, AllocError> {
+    ) -> Result<Option<Block>, AllocError>
+        ensures { IfOk result (λ found. IfSome found (BeginsInput input.now)) }
+    {
         if input.is_empty() {
             return Ok(None);
         }
@@ -78,13 +86,14 @@ impl Frames {
         input: &[u8],
         frame: &Frame<'_>,
         alloc: Global,
-    ) -> Result<Block, AllocError> {
+    ) -> Result<Block, AllocError>
+        ensures { IfOk result (BeginsInput input.now) }
+    {
         let len = (frame.header.size as usize).min(input.len());
         let body_at = len.saturating_sub(frame.body.len());
-        let mut block = self.frame_block(&input[..len], body_at, frame.header.kind, alloc)?;
-        block.subject = Subject::Frame(frame.header.kind);
-        block.extended = some_span(8, body_at);
-        Ok(block)
+        let block = self.frame_block(&input[..len], body_at, frame.header.kind, alloc)?;
+        let block = block.of(Subject::Frame(frame.header.kind));
+        Ok(block.with_extended(some_span(8, body_at)))
     }
 
     // A frame of these bytes, whose body begins at the place.
@@ -94,7 +103,9 @@ impl Frames {
         body_at: usize,
         kind: FrameKind,
         alloc: Global,
-    ) -> Result<Block, AllocError> {
+    ) -> Result<Block, AllocError>
+        ensures { body_at ≤ length bytes.now → IfOk result (IsBlock (length bytes.now)) }
+    {
         match kind {
             FrameKind::Amqp { .. } if body_at >= bytes.len() => {
                 Ok(Block::new(Subject::NoFrame, bytes.len(), alloc))
@@ -111,18 +122,21 @@ impl Frames {
         at: usize,
         channel: u16,
         alloc: Global,
-    ) -> Result<Block, AllocError> {
-        let (mut block, end) = value_block(bytes, at, alloc)?;
-        block.payload = some_span(end, bytes.len());
-        match self.read_performative(bytes.get(at..).unwrap_or_default(), channel, alloc)? {
+    ) -> Result<Block, AllocError>
+        ensures { at ≤ length bytes.now → IfOk result (IsBlock (length bytes.now)) }
+    {
+        let (block, end) = value_block(bytes, at, alloc)?;
+        let block = block.with_payload(some_span(end, bytes.len()));
+        let body = bytes.get(at..).unwrap_or_default();
+        match self.read_performative(body, channel, alloc)? {
             Performed::WithMessage if end < bytes.len() => {
-                block.message = sections_of(bytes, end, alloc)?;
-                with_fault(block, message_fault(bytes, end, &self.bounds, alloc)?)
+                let block = block.with_message(sections_of(bytes, end, alloc)?);
+                block.with_fault(message_fault(bytes, end, &self.bounds, alloc)?)
             }
             Performed::WithMessage | Performed::Other => Ok(block),
             Performed::Refused(refusal) => {
                 let fault = Fault::of_term(refusal, bytes, at, at, alloc)?;
-                with_fault(block, Some(fault))
+                block.with_fault(Some(fault))
             }
         }
     }
@@ -133,7 +147,9 @@ impl Frames {
         body: &[u8],
         channel: u16,
         alloc: Global,
-    ) -> Result<Performed, AllocError> {
+    ) -> Result<Performed, AllocError>
+        ensures { IfOk result (IfRefused (λ refusal. refusal.at ≤ length body.now)) }
+    {
         let limits = self.bounds.within(body);
         match from_slice_located::<Performative>(body, &limits, alloc) {
             Ok(read) => {
@@ -149,7 +165,9 @@ impl Frames {
         &mut self,
         performative: Performative,
         channel: u16,
-    ) -> Result<Performed, AllocError> {
+    ) -> Result<Performed, AllocError>
+        ensures { IfOk result (IfRefused (λ refusal. ⊥)) }
+    {
         match performative {
             Performative::Transfer(transfer) => {
                 let is_whole = self.is_whole_message(channel, &transfer)?;
@@ -178,23 +196,14 @@ impl Frames {
     }
 }
 
-// The block with one more fault, if there is one.
-fn with_fault(mut block: Block, fault: Option<Fault>) -> Result<Block, AllocError> {
-    match fault {
-        Some(fault) => {
-            block.faults.push(fault)?;
-            Ok(block)
-        }
-        None => Ok(block),
-    }
-}
-
 // A block of these bytes with the value that begins at the place, and where the value ends. If none begins there, this is the end of the
 // bytes; the fault is found by reading the value.
-fn value_block(bytes: &[u8], at: usize, alloc: Global) -> Result<(Block, usize), AllocError> {
+fn value_block(bytes: &[u8], at: usize, alloc: Global) -> Result<(Block, usize), AllocError>
+    ensures { at ≤ length bytes.now
+        → IfOk result (λ found. IsBlock (length bytes.now) found.0 × (found.1 ≤ length bytes.now)) }
+{
     let Outline { entries, end } = outline_at(bytes, at, alloc)?;
-    let mut block = Block::new(Subject::NoFrame, bytes.len(), alloc);
-    block.value = entries;
+    let block = Block::new(Subject::NoFrame, bytes.len(), alloc).with_value(entries);
     Ok((block, end.unwrap_or(bytes.len())))
 }
 
@@ -204,28 +213,39 @@ fn sasl_block(
     at: usize,
     bounds: &Bounds,
     alloc: Global,
-) -> Result<Block, AllocError> {
+) -> Result<Block, AllocError>
+    ensures { at ≤ length bytes.now → IfOk result (IsBlock (length bytes.now)) }
+{
+    let (block, _) = value_block(bytes, at, alloc)?;
+    block.with_fault(sasl_fault(bytes, at, bounds, alloc)?)
+}
+
+// What is wrong with the body of a SASL frame, if anything is.
+fn sasl_fault(
+    bytes: &[u8],
+    at: usize,
+    bounds: &Bounds,
+    alloc: Global,
+) -> Result<Option<Fault>, AllocError>
+    ensures { at ≤ length bytes.now → IfOk result (λ found. IfSome found (StandsWithin (length bytes.now))) }
+{
     let body = bytes.get(at..).unwrap_or_default();
     if body.is_empty() {
-        let block = Block::new(Subject::NoFrame, bytes.len(), alloc);
-        return with_fault(block, Some(Fault::at(Cause::EmptySasl, at, alloc)));
+        return Ok(Some(Fault::at(Cause::EmptySasl, at, alloc)));
     }
-    let (block, _) = value_block(bytes, at, alloc)?;
     match verdict_of::<SaslFrame>(body, &bounds.within(body), alloc) {
         Verdict::Value(len) if len < body.len() => {
-            let fault = Fault::at(Cause::BytesLeft, at.saturating_add(len), alloc);
-            with_fault(block, Some(fault))
+            Ok(Some(Fault::at(Cause::BytesLeft, at.saturating_add(len), alloc)))
         }
-        Verdict::Value(_) => Ok(block),
-        Verdict::Refused(refusal) => {
-            let fault = Fault::of_term(refusal, bytes, at, at, alloc)?;
-            with_fault(block, Some(fault))
-        }
+        Verdict::Value(_) => Ok(None),
+        Verdict::Refused(refusal) => Ok(Some(Fault::of_term(refusal, bytes, at, at, alloc)?)),
     }
 }
 
 // The protocol header that the input begins with.
-fn header_block(input: &[u8], is_end: bool, alloc: Global) -> Result<Option<Block>, AllocError> {
+fn header_block(input: &[u8], is_end: bool, alloc: Global) -> Result<Option<Block>, AllocError>
+    ensures { IfOk result (λ found. IfSome found (BeginsInput input.now)) }
+{
     match next_protocol_header(input) {
         Ok(HeaderStep::Header(header)) => {
             Ok(Some(Block::new(Subject::ProtocolHeader(header), 8, alloc)))
@@ -237,23 +257,24 @@ fn header_block(input: &[u8], is_end: bool, alloc: Global) -> Result<Option<Bloc
 }
 
 // A protocol header or a frame whose end is missing.
-fn cut_block(input: &[u8], count: usize, alloc: Global) -> Result<Block, AllocError> {
-    let block = Block::new(Subject::CutFrame, input.len(), alloc);
-    with_fault(
-        block,
-        Some(Fault::at(Cause::Ended(count), input.len(), alloc)),
-    )
+fn cut_block(input: &[u8], count: usize, alloc: Global) -> Result<Block, AllocError>
+    ensures { IfOk result (IsBlock (length input.now)) }
+{
+    let fault = Fault::at(Cause::Ended(count), input.len(), alloc);
+    Block::new(Subject::CutFrame, input.len(), alloc).with_fault(Some(fault))
 }
 
 // A frame whose end is missing, with what there is of its body.
-fn cut_frame(input: &[u8], count: usize, alloc: Global) -> Result<Block, AllocError> {
-    let mut block = cut_block(input, count, alloc)?;
-    if let Some(data_offset) = input.get(4) {
-        let at = usize::from(*data_offset).saturating_mul(4);
-        let Outline { entries, .. } = outline_at(input, at, alloc)?;
-        block.value = entries;
-    }
-    Ok(block)
+fn cut_frame(input: &[u8], count: usize, alloc: Global) -> Result<Block, AllocError>
+    ensures { IfOk result (IsBlock (length input.now)) }
+{
+    let block = cut_block(input, count, alloc)?;
+    let Some(data_offset) = input.get(4) else {
+        return Ok(block);
+    };
+    let at = usize::from(*data_offset).saturating_mul(4).min(input.len());
+    let Outline { entries, .. } = outline_at(input, at, alloc)?;
+    Ok(block.with_value(entries))
 }
 
 // Bytes whose first eight are no frame's header. If they begin with a size, and the input has so many bytes, the next frame is behind them.
@@ -262,19 +283,24 @@ fn broken_block(
     is_end: bool,
     error: FrameError,
     alloc: Global,
-) -> Result<Option<Block>, AllocError> {
+) -> Result<Option<Block>, AllocError>
+    requires { place_of error ≤ length input.now }
+    ensures { IfOk result (λ found. IfSome found (BeginsInput input.now)) }
+{
     let len = match announced_size(input) {
         Some(size) if size <= input.len() => size,
         Some(_) if !is_end => return Ok(None),
         _ => input.len(),
     };
-    let block = Block::new(Subject::NoFrame, len, alloc);
     let fault = Fault::of_frame(error, alloc)?;
-    Ok(Some(with_fault(block, Some(fault))?))
+    let block = Block::new(Subject::NoFrame, len, alloc).with_fault(Some(fault))?;
+    Ok(Some(block))
 }
 
 // The size that the bytes begin with, if a frame may have it.
-fn announced_size(input: &[u8]) -> Option<usize> {
+fn announced_size(input: &[u8]) -> Option<usize>
+    ensures { IfSome result (λ size. 8 ≤ size) }
+{
     let [a, b, c, d, ..] = input else {
         return None;
     };

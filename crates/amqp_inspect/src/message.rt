@@ -1,4 +1,8 @@
 //! Messages, section by section (Part 3, section 3.2).
+ghost use Rattle.std.specs.Prelude.{◌≡◌, ◌≤◌, ◌-◌, ℕ, length, IfOk, IfSome, true};
+ghost use Rattle.amqp_inspect.specs.Blocks.{BeginsInput, IsAhead, StandsWithin};
+ghost use Rattle.amqp_inspect.specs.Spans.{IsOutline};
+
 use crate::block::{Block, Subject};
 use crate::entry::Entry;
 use crate::fault::{Cause, Fault, Verdict, verdict_of};
@@ -23,7 +27,9 @@ impl Sections {
         is_strict: bool,
         bounds: &Bounds,
         alloc: Global,
-    ) -> Result<Sections, AllocError> {
+    ) -> Result<Sections, AllocError>
+        ensures { IfOk result (IsAhead (length input.now)) }
+    {
         let fault = if is_strict {
             fault_of::<Strict<Body<Value>>>(input, 0, bounds, alloc)?
         } else {
@@ -38,21 +44,32 @@ impl Sections {
         &mut self,
         input: &[u8],
         alloc: Global,
-    ) -> Result<Option<Block>, AllocError> {
+    ) -> Result<Option<Block>, AllocError>
+        ensures block { IsAhead (length input.now) self.old → IfOk result (λ found. IfSome found (BeginsInput input.now)) }
+        ensures ahead { IsAhead (length input.now) self.old
+            → IfOk result (λ found. IfSome found (λ block. IsAhead (length input.now - block.len) self.new)) }
+    {
         if input.is_empty() && self.fault.is_none() {
             return Ok(None);
         }
         let Outline { entries, end } = outline_at(input, 0, alloc)?;
-        let mut block = Block::new(Subject::Section, end.unwrap_or(input.len()), alloc);
-        block.value = entries;
-        match self.fault.take() {
-            None => {}
-            Some(fault) if fault.at < block.len || block.len >= input.len() => {
-                block.faults.push(fault)?;
-            }
-            Some(fault) => self.fault = Some(fault.moved_by(block.len)),
+        let len = end.unwrap_or(input.len());
+        let block = Block::new(Subject::Section, len, alloc).with_value(entries);
+        let fault = self.take_fault(len, len >= input.len());
+        Ok(Some(block.with_fault(fault)?))
+    }
+
+    // Takes the fault if it is in the next section, which has so many bytes.
+    fn take_fault(&mut self, len: usize, is_last: bool) -> Option<Fault>
+        ensures { (n : ℕ) → IsAhead n self.old → len ≤ n → (is_last ≡ true → n ≤ len)
+            → IfSome result (StandsWithin len) × IsAhead (n - len) self.new }
+    {
+        let fault = self.fault.take()?;
+        if fault.at < len || is_last {
+            return Some(fault);
         }
-        Ok(Some(block))
+        self.fault = Some(fault.moved_by(len));
+        None
     }
 }
 
@@ -61,7 +78,9 @@ pub(crate) fn sections_of(
     bytes: &[u8],
     from: usize,
     alloc: Global,
-) -> Result<Vec<Entry>, AllocError> {
+) -> Result<Vec<Entry>, AllocError>
+    ensures { from ≤ length bytes.now → IfOk result (λ entries. IsOutline (length bytes.now) entries.items) }
+{
     let mut entries = Vec::new(alloc);
     let mut at = from;
     'sections: for _ in from..bytes.len() {
@@ -79,7 +98,9 @@ pub(crate) fn message_fault(
     from: usize,
     bounds: &Bounds,
     alloc: Global,
-) -> Result<Option<Fault>, AllocError> {
+) -> Result<Option<Fault>, AllocError>
+    ensures { from ≤ length bytes.now → IfOk result (λ found. IfSome found (StandsWithin (length bytes.now))) }
+{
     fault_of::<Message<Body<Value>>>(bytes, from, bounds, alloc)
 }
 
@@ -89,7 +110,9 @@ fn fault_of<T: Deserialize>(
     from: usize,
     bounds: &Bounds,
     alloc: Global,
-) -> Result<Option<Fault>, AllocError> {
+) -> Result<Option<Fault>, AllocError>
+    ensures { from ≤ length bytes.now → IfOk result (λ found. IfSome found (StandsWithin (length bytes.now))) }
+{
     let message = bytes.get(from..).unwrap_or_default();
     match verdict_of::<T>(message, &bounds.within(message), alloc) {
         Verdict::Value(len) if len < message.len() => {

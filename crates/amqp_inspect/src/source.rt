@@ -1,4 +1,7 @@
 //! What the input is, and its blocks one after another.
+ghost use Rattle.std.specs.Prelude.{◌-◌, length, IfOk, IfSome};
+ghost use Rattle.amqp_inspect.specs.Blocks.{BeginsInput, IsNext};
+
 use crate::arguments::{Form, Options};
 use crate::block::Block;
 use crate::described::{is_section, type_at};
@@ -23,7 +26,9 @@ impl Source {
         input: &[u8],
         is_end: bool,
         alloc: Global,
-    ) -> Result<Option<Source>, AllocError> {
+    ) -> Result<Option<Source>, AllocError>
+        ensures { IfOk result (λ found. IfSome found (IsNext (length input.now))) }
+    {
         let form = match options.form {
             Some(form) => form,
             None => match form_of(input, is_end) {
@@ -45,13 +50,18 @@ impl Source {
         })
     }
 
-    /// Returns the block that the rest of the input begins with, or `None` behind the last one, and if more bytes are needed.
+    /// Returns the block that the rest of the input begins with, or `None` behind the last one, and if more bytes are needed. What is told of
+    /// the block is in its bytes.
     pub(crate) fn next_block(
         &mut self,
         input: &[u8],
         is_end: bool,
         alloc: Global,
-    ) -> Result<Option<Block>, AllocError> {
+    ) -> Result<Option<Block>, AllocError>
+        ensures block { IsNext (length input.now) self.old → IfOk result (λ found. IfSome found (BeginsInput input.now)) }
+        ensures ahead { IsNext (length input.now) self.old
+            → IfOk result (λ found. IfSome found (λ block. IsNext (length input.now - block.len) self.new)) }
+    {
         match self {
             Source::Frames(frames) => frames.next_block(input, is_end, alloc),
             Source::Message(sections) => sections.next_block(input, alloc),
