@@ -40,31 +40,31 @@ weaker depth deeper from later to earlier e (inr (h, k, l)) d f t = inr (omega a
 
 -- ---- what is left of the values that are opened
 
-pub left : (n : ℕ) (es : List Entry) (os : List Open) (o : Open) → Grows n es (os ++ o ∷ []) → Grows n es os
-left n es os o g = record {
+pub left : (l n : ℕ) (es : List Entry) (os : List Open) (o : Open) → Grows l n es (os ++ o ∷ []) → Grows l n es os
+left l n es os o g = record {
   within = g.within;
   nested = g.nested;
-  opens = (All-pop (IsOpen n) (os ++ o ∷ []) os (Some o) refl g.opens).0;
+  opens = (All-pop (IsOpen l n) (os ++ o ∷ []) os (Some o) refl g.opens).0;
   before = (All-pop (λ q. All (LeadsTo q) es) (os ++ o ∷ []) os (Some o) refl g.before).0;
   stacked = pairs_front EndsBefore os o g.stacked;
 }
 
-pub last_is_open : (n : ℕ) (es : List Entry) (os : List Open) (o : Open) → Grows n es (os ++ o ∷ []) → IsOpen n o
-last_is_open n es os o g = (All-pop (IsOpen n) (os ++ o ∷ []) os (Some o) refl g.opens).1
+pub last_is_open : (l n : ℕ) (es : List Entry) (os : List Open) (o : Open) → Grows l n es (os ++ o ∷ []) → IsOpen l n o
+last_is_open l n es os o g = (All-pop (IsOpen l n) (os ++ o ∷ []) os (Some o) refl g.opens).1
 
-pub last_before : (n : ℕ) (es : List Entry) (os : List Open) (o : Open) → Grows n es (os ++ o ∷ []) → All (LeadsTo o) es
-last_before n es os o g = (All-pop (λ q. All (LeadsTo q) es) (os ++ o ∷ []) os (Some o) refl g.before).1
+pub last_before : (l n : ℕ) (es : List Entry) (os : List Open) (o : Open) → Grows l n es (os ++ o ∷ []) → All (LeadsTo o) es
+last_before l n es os o g = (All-pop (λ q. All (LeadsTo q) es) (os ++ o ∷ []) os (Some o) refl g.before).1
 
-pub last_below : (n : ℕ) (es : List Entry) (os : List Open) (o : Open) → Grows n es (os ++ o ∷ []) → All (λ q. o.node.end ≤ q.next) os
-last_below n es os o g = pairs_last EndsBefore os o g.stacked
+pub last_below : (l n : ℕ) (es : List Entry) (os : List Open) (o : Open) → Grows l n es (os ++ o ∷ []) → All (λ q. o.node.end ≤ q.next) os
+last_below l n es os o g = pairs_last EndsBefore os o g.stacked
 
 -- ---- steps
 
 -- One more entry, before which all others come.
-pub added : (n : ℕ) (es : List Entry) (os : List Open) (f : Entry) → Grows n es os → IsWithin n f
-    → All (ComesBefore f.depth f.from f.to) es → All (λ o. f.to ≤ o.next) os → Grows n (es ++ f ∷ []) os
-added n es os f g is before below = record {
-  within = All-push (IsWithin n) es f g.within is;
+pub added : (l n : ℕ) (es : List Entry) (os : List Open) (f : Entry) → Grows l n es os → IsWithin l n f
+    → All (ComesBefore f.depth f.from f.to) es → All (λ o. f.to ≤ o.next) os → Grows l n (es ++ f ∷ []) os
+added l n es os f g is before below = record {
+  within = All-push (IsWithin l n) es f g.within is;
   nested = all_pairs_push Precedes es f g.nested before;
   opens = g.opens;
   before = λ k d lt. All-push (LeadsTo (get_or os k d)) es f (g.before k d lt) (inl (below k d lt));
@@ -72,13 +72,13 @@ added n es os f g is before below = record {
 }
 
 -- The parts of the last entry come next.
-pub opened_last : (n : ℕ) (es : List Entry) (os : List Open) (f : Entry) (p : Open) → Grows n (es ++ f ∷ []) os → IsOpen n p
+pub opened_last : (l n : ℕ) (es : List Entry) (os : List Open) (f : Entry) (p : Open) → Grows l n (es ++ f ∷ []) os → IsOpen l n p
     → f.depth < p.depth → f.from ≤ p.next → p.node.end ≤ f.to → All (ComesBefore f.depth f.from f.to) es → All (λ o. f.to ≤ o.next) os
-    → Grows n (es ++ f ∷ []) (os ++ p ∷ [])
-opened_last n es os f p g is deep from to before below = record {
+    → Grows l n (es ++ f ∷ []) (os ++ p ∷ [])
+opened_last l n es os f p g is deep from to before below = record {
   within = g.within;
   nested = g.nested;
-  opens = All-push (IsOpen n) os p g.opens is;
+  opens = All-push (IsOpen l n) os p g.opens is;
   before = All-push (λ o. All (LeadsTo o) (es ++ f ∷ [])) os p g.before
       (All-push (LeadsTo p) es f
       (λ k d lt. weaker f.depth p.depth f.from p.next f.to p.node.end (get_or es k d) (before k d lt) (omega arith) from to)
@@ -87,27 +87,28 @@ opened_last n es os f p g is deep from to before below = record {
 }
 
 -- The parts of the value that was opened last come next from a later place on.
-pub moved : (n : ℕ) (es : List Entry) (os : List Open) (o p : Open) → Grows n es (os ++ o ∷ []) → IsOpen n p → o.depth ≤ p.depth
-    → o.next ≤ p.next → p.node.end ≤ o.node.end → Grows n es (os ++ p ∷ [])
-moved n es os o p g is deep from to =
-    let front = left n es os o g in
+pub moved : (l n : ℕ) (es : List Entry) (os : List Open) (o p : Open) → Grows l n es (os ++ o ∷ []) → IsOpen l n p → o.depth ≤ p.depth
+    → o.next ≤ p.next → p.node.end ≤ o.node.end → Grows l n es (os ++ p ∷ [])
+moved l n es os o p g is deep from to =
+    let front = left l n es os o g in
     record {
       within = g.within;
       nested = g.nested;
-      opens = All-push (IsOpen n) os p front.opens is;
+      opens = All-push (IsOpen l n) os p front.opens is;
       before = All-push (λ q. All (LeadsTo q) es) os p front.before
-          (λ k d lt. weaker o.depth p.depth o.next p.next o.node.end p.node.end (get_or es k d) (last_before n es os o g k d lt) deep from to);
+          (λ k d lt. weaker o.depth p.depth o.next p.next o.node.end p.node.end (get_or es k d) (last_before l n es os o g k d lt) deep from to);
       stacked = all_pairs_push EndsBefore os p front.stacked
-          (λ k d lt. let h : o.node.end ≤ (get_or os k d).next = last_below n es os o g k d lt in omega arith);
+          (λ k d lt. let h : o.node.end ≤ (get_or os k d).next = last_below l n es os o g k d lt in omega arith);
     }
 
 -- A value is met in the one that was opened last, whose parts go on behind it.
-pub meets : (n : ℕ) (input : List ℕ) (es : List Entry) (os : List Open) (o p : Open) (met : Met) → Grows n es (os ++ o ∷ [])
+pub meets : (l n : ℕ) (input : List ℕ) (es : List Entry) (os : List Open) (o p : Open) (met : Met) → Grows l n es (os ++ o ∷ [])
     → IsMetAt input o.next o.node met → p.node ≡ o.node → p.depth ≡ o.depth → p.next ≡ met.node.end
-    → Grows n es (os ++ p ∷ []) × Meets n o.depth met es (os ++ p ∷ [])
-meets n input es os o p met g told same deep next =
-    let is = last_is_open n es os o g in
+    → Grows l n es (os ++ p ∷ []) × Meets l n o.depth met es (os ++ p ∷ [])
+meets l n input es os o p met g told same deep next =
+    let is = last_is_open l n es os o g in
     let some = is.some in
+    let low = is.from in
     let inside : met.node.end ≤ o.node.end = told.inside some in
     let begins = told.is.begins in
     let from = told.from in
@@ -115,35 +116,38 @@ meets n input es os o p met g told same deep next =
     let end : p.node.end ≡ o.node.end = ap (λ (x : Node). x.end) same in
     let kind : p.node.kind ≡ o.node.kind = ap (λ (x : Node). x.kind) same in
     let later : o.next ≤ p.next = omega arith in
-    let is_open : IsOpen n p = record { some = omega arith; next = omega arith; ends = omega arith } in
+    let is_open : IsOpen l n p = record { from = omega arith; some = omega arith; next = omega arith; ends = omega arith } in
     let deeper : o.depth ≤ p.depth = omega arith in
     let within : p.node.end ≤ o.node.end = omega arith in (
-      moved n es os o p g is_open deeper later within,
+      moved l n es os o p g is_open deeper later within,
       record {
+        from = omega arith;
         within = omega arith;
-        before = λ k d lt. let h = last_before n es os o g k d lt in
+        before = λ k d lt. let h = last_before l n es os o g k d lt in
             weaker o.depth o.depth o.next met.from o.node.end met.node.end (get_or es k d) h (omega arith) (omega arith) inside;
         below = All-push (λ q. met.node.end ≤ q.next) os p
-            (λ k d lt. let h : o.node.end ≤ (get_or os k d).next = last_below n es os o g k d lt in omega arith) (omega arith);
+            (λ k d lt. let h : o.node.end ≤ (get_or os k d).next = last_below l n es os o g k d lt in omega arith) (omega arith);
       },
     )
 
 -- The entry of the value that is met.
-pub entered : (n depth : ℕ) (es : List Entry) (os : List Open) (met : Met) (f : Entry) → Grows n es os → Meets n depth met es os → IsMet met
-    → f.depth ≡ depth → f.from ≡ met.from → f.to ≡ met.node.end → Grows n (es ++ f ∷ []) os
-entered n depth es os met f g m is deep from to =
+pub entered : (l n depth : ℕ) (es : List Entry) (os : List Open) (met : Met) (f : Entry) → Grows l n es os → Meets l n depth met es os → IsMet met
+    → f.depth ≡ depth → f.from ≡ met.from → f.to ≡ met.node.end → Grows l n (es ++ f ∷ []) os
+entered l n depth es os met f g m is deep from to =
     let within = m.within in
+    let low = m.from in
     let begins = is.begins in
-    added n es os f g (record { begins = omega arith; ends = omega arith })
+    added l n es os f g (record { starts = omega arith; begins = omega arith; ends = omega arith })
     (λ k d lt. weaker depth f.depth met.from f.from met.node.end f.to (get_or es k d) (m.before k d lt) (omega arith) (omega arith) (omega arith))
     (λ k d lt. let h : met.node.end ≤ (get_or os k d).next = m.below k d lt in omega arith)
 
 -- The same, and the parts of the value come next.
-pub entered_open : (n depth : ℕ) (es : List Entry) (os : List Open) (met : Met) (f : Entry) (o p : Open) → Grows n es os → Meets n depth met es os → IsMet met
+pub entered_open : (l n depth : ℕ) (es : List Entry) (os : List Open) (met : Met) (f : Entry) (o p : Open) → Grows l n es os → Meets l n depth met es os → IsMet met
     → f.depth ≡ depth → f.from ≡ met.from → f.to ≡ met.node.end → IsInside met o → p.node ≡ o.node → p.next ≡ o.next → p.depth ≡ depth + 1
-    → Grows n (es ++ f ∷ []) (os ++ p ∷ [])
-entered_open n depth es os met f o p g m is deep from to inside same next deeper =
+    → Grows l n (es ++ f ∷ []) (os ++ p ∷ [])
+entered_open l n depth es os met f o p g m is deep from to inside same next deeper =
     let within = m.within in
+    let low = m.from in
     let begins = is.begins in
     let some = inside.some in
     let starts = inside.begins in
@@ -151,58 +155,60 @@ entered_open n depth es os met f o p g m is deep from to inside same next deeper
     let ends = inside.ends in
     let end : p.node.end ≡ o.node.end = ap (λ (x : Node). x.end) same in
     let kind : p.node.kind ≡ o.node.kind = ap (λ (x : Node). x.kind) same in
-    let is_open : IsOpen n p = record { some = omega arith; next = omega arith; ends = omega arith } in
-    opened_last n es os f p (entered n depth es os met f g m is deep from to) is_open (omega arith) (omega arith) (omega arith)
+    let is_open : IsOpen l n p = record { from = omega arith; some = omega arith; next = omega arith; ends = omega arith } in
+    opened_last l n es os f p (entered l n depth es os met f g m is deep from to) is_open (omega arith) (omega arith) (omega arith)
     (λ k d lt. weaker depth f.depth met.from f.from met.node.end f.to (get_or es k d) (m.before k d lt) (omega arith) (omega arith) (omega arith))
     (λ k d lt. let h : met.node.end ≤ (get_or os k d).next = m.below k d lt in omega arith)
 
 -- An entry of no bytes where the parts go on.
-pub omitted : (n : ℕ) (es : List Entry) (os : List Open) (o : Open) (f : Entry) → Grows n es (os ++ o ∷ []) → f.depth ≡ o.depth
-    → f.from ≡ o.next → f.to ≡ o.next → Grows n (es ++ f ∷ []) (os ++ o ∷ [])
-omitted n es os o f g deep from to =
-    let is = last_is_open n es os o g in
+pub omitted : (l n : ℕ) (es : List Entry) (os : List Open) (o : Open) (f : Entry) → Grows l n es (os ++ o ∷ []) → f.depth ≡ o.depth
+    → f.from ≡ o.next → f.to ≡ o.next → Grows l n (es ++ f ∷ []) (os ++ o ∷ [])
+omitted l n es os o f g deep from to =
+    let is = last_is_open l n es os o g in
+    let low = is.from in
     let next = is.next in
     let ends = is.ends in
-    added n es (os ++ o ∷ []) f g (record { begins = omega arith; ends = omega arith })
-    (λ k d lt. weaker o.depth f.depth o.next f.from o.node.end f.to (get_or es k d) (last_before n es os o g k d lt) (omega arith) (omega arith) (omega arith))
+    added l n es (os ++ o ∷ []) f g (record { starts = omega arith; begins = omega arith; ends = omega arith })
+    (λ k d lt. weaker o.depth f.depth o.next f.from o.node.end f.to (get_or es k d) (last_before l n es os o g k d lt) (omega arith) (omega arith) (omega arith))
     (All-push (λ q. f.to ≤ q.next) os o
-    (λ k d lt. let h : o.node.end ≤ (get_or os k d).next = last_below n es os o g k d lt in omega arith) (omega arith))
+    (λ k d lt. let h : o.node.end ≤ (get_or os k d).next = last_below l n es os o g k d lt in omega arith) (omega arith))
 
 -- ---- the whole
 
 -- The first value is met behind an outline.
-pub begun : (n at : ℕ) (es : List Entry) (met : Met) → IsOutline at es → met.from ≡ at → met.node.end ≡ n → IsMet met
-    → Grows n es [] × Meets n 0 met es []
-begun n at es met h from to is =
+pub begun : (l n at : ℕ) (es : List Entry) (met : Met) → l ≤ at → IsOutline l at es → met.from ≡ at → met.node.end ≡ n → IsMet met
+    → Grows l n es [] × Meets l n 0 met es []
+begun l n at es met low h from to is =
     let begins = is.begins in (
       record {
-        within = λ k d lt. let w = h.within k d lt in let b = w.begins in let e = w.ends in record { begins = b; ends = omega arith };
+        within = λ k d lt. let w = h.within k d lt in let b = w.begins in let e = w.ends in record { starts = w.starts; begins = b; ends = omega arith };
         nested = h.nested;
         opens = λ k d lt. absurd (omega arith);
         before = λ k d lt. absurd (omega arith);
         stacked = λ i j d lt near. absurd (omega arith);
       },
       record {
+        from = omega arith;
         within = omega arith;
         before = λ k d lt. let w = h.within k d lt in let e = w.ends in inl (omega arith);
         below = λ k d lt. absurd (omega arith);
       },
     )
 
-pub outline_of : (n m : ℕ) (es : List Entry) (os : List Open) → Grows n es os → n ≤ m → IsOutline m es
-outline_of n m es os g le = record {
-  within = λ k d lt. let w = g.within k d lt in let b = w.begins in let e = w.ends in record { begins = b; ends = omega arith };
+pub outline_of : (l n m : ℕ) (es : List Entry) (os : List Open) → Grows l n es os → n ≤ m → IsOutline l m es
+outline_of l n m es os g le = record {
+  within = λ k d lt. let w = g.within k d lt in let b = w.begins in let e = w.ends in record { starts = w.starts; begins = b; ends = omega arith };
   nested = g.nested;
 }
 
-pub longer_outline : (n m : ℕ) (es : List Entry) → IsOutline n es → n ≤ m → IsOutline m es
-longer_outline n m es h le = record {
-  within = λ k d lt. let w = h.within k d lt in let b = w.begins in let e = w.ends in record { begins = b; ends = omega arith };
+pub longer_outline : (l n m : ℕ) (es : List Entry) → IsOutline l n es → n ≤ m → IsOutline l m es
+longer_outline l n m es h le = record {
+  within = λ k d lt. let w = h.within k d lt in let b = w.begins in let e = w.ends in record { starts = w.starts; begins = b; ends = omega arith };
   nested = h.nested;
 }
 
-pub empty_outline : (n : ℕ) → IsOutline n []
-empty_outline n = record {
+pub empty_outline : (l n : ℕ) → IsOutline l n []
+empty_outline l n = record {
   within = λ k d lt. absurd (omega arith);
   nested = λ i j d lt near. absurd (omega arith);
 }
@@ -226,10 +232,10 @@ met_found input at around node met h from same =
     }
 
 -- Where a value ends if it is whole, and else the input.
-pub ended : (found : Option ℕ) (end len : ℕ) (es : List Entry) → IfSome found (λ k. k ≡ end) → IsOutline end es → end ≤ len
-    → IsOutline (unwrap_or found len) es
-ended (Some k) end len es same h le = longer_outline end k es h (omega (arith, same))
-ended None end len es same h le = longer_outline end len es h le
+pub ended : (l : ℕ) (found : Option ℕ) (end len : ℕ) (es : List Entry) → IfSome found (λ k. k ≡ end) → IsOutline l end es → end ≤ len
+    → IsOutline l (unwrap_or found len) es
+ended l (Some k) end len es same h le = longer_outline l end k es h (omega (arith, same))
+ended l None end len es same h le = longer_outline l end len es h le
 
 pub ended_within : (found : Option ℕ) (from end len : ℕ) → IfSome found (λ k. k ≡ end) → from ≤ end → end ≤ len
     → IfSome found (λ k. (from ≤ k) × (k ≤ len))

@@ -43,8 +43,9 @@ pub record IsInside (met : Met) (o : Open) : Type 0 where
   pub next : o.next ≤ o.node.end
   pub ends : o.node.end ≤ met.node.end
 
--- The parts that come next are within the first n bytes.
-pub record IsOpen (n : ℕ) (o : Open) : Type 0 where
+-- The parts that come next are from the place l to the place n.
+pub record IsOpen (l n : ℕ) (o : Open) : Type 0 where
+  pub from : l ≤ o.next
   pub some : 0 < o.node.kind
   pub next : o.next ≤ o.node.end
   pub ends : o.node.end ≤ n
@@ -58,15 +59,16 @@ abbrev pub EndsBefore : Open → Open → Type 0
 EndsBefore o p = p.node.end ≤ o.next
 
 -- The entries so far, and the values whose parts come next, from the outside in.
-pub record Grows (n : ℕ) (entries : List Entry) (opened : List Open) : Type 0 where
-  pub within : All (IsWithin n) entries
+pub record Grows (l n : ℕ) (entries : List Entry) (opened : List Open) : Type 0 where
+  pub within : All (IsWithin l n) entries
   pub nested : AllPairs Precedes entries
-  pub opens : All (IsOpen n) opened
+  pub opens : All (IsOpen l n) opened
   pub before : All (λ o. All (LeadsTo o) entries) opened
   pub stacked : AllPairs EndsBefore opened
 
 -- A value comes next that is met, with so many entries around it.
-pub record Meets (n depth : ℕ) (met : Met) (entries : List Entry) (opened : List Open) : Type 0 where
+pub record Meets (l n depth : ℕ) (met : Met) (entries : List Entry) (opened : List Open) : Type 0 where
+  pub from : l ≤ met.from
   pub within : met.node.end ≤ n
   pub before : All (ComesBefore depth met.from met.node.end) entries
   pub below : All (λ o. met.node.end ≤ o.next) opened

@@ -3,8 +3,9 @@ use Rattle.std.specs.Prelude.{◌≡◌, ◌⊎◌, ℕ, ◌<◌, ◌≤◌, Lis
 use Rattle.std.specs.List.{All, AllPairs}
 use Rattle.amqp_inspect.specs.declared.entry.Entry.{Entry}
 
--- The entry ends behind its begin, within the first n bytes.
-pub record IsWithin (n : ℕ) (e : Entry) : Type 0 where
+-- The entry ends behind its begin, from one place to another.
+pub record IsWithin (l n : ℕ) (e : Entry) : Type 0 where
+  pub starts : l ≤ e.from
   pub begins : e.from ≤ e.to
   pub ends : e.to ≤ n
 
@@ -16,7 +17,7 @@ ComesBefore depth from to e = (e.to ≤ from) ⊎ ((e.from ≤ from) × (to ≤ 
 abbrev pub Precedes : Entry → Entry → Type 0
 Precedes e f = ComesBefore f.depth f.from f.to e
 
--- The entries are within the first n bytes, and each one ends before each later one or is around it.
-pub record IsOutline (n : ℕ) (entries : List Entry) : Type 0 where
-  pub within : All (IsWithin n) entries
+-- The entries are from the place l to the place n, and each one ends before each later one or is around it.
+pub record IsOutline (l n : ℕ) (entries : List Entry) : Type 0 where
+  pub within : All (IsWithin l n) entries
   pub nested : AllPairs Precedes entries

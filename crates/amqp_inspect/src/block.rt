@@ -1,6 +1,6 @@
 //! Blocks: what is printed together.
-ghost use Rattle.std.specs.Prelude.{◌≡◌, ◌≤◌, ℕ, IfOk, IfSome};
-ghost use Rattle.amqp_inspect.specs.Blocks.{IsBlock, IsSpan, StandsWithin};
+ghost use Rattle.std.specs.Prelude.{◌≡◌, ℕ, IfOk, IfSome};
+ghost use Rattle.amqp_inspect.specs.Blocks.{IsBlock, IsTile, StandsWithin};
 ghost use Rattle.amqp_inspect.specs.Spans.{IsOutline};
 
 use crate::colours::Colours;
@@ -52,7 +52,7 @@ pub(crate) struct Block {
 impl Block {
     /// A block without a value and without faults.
     pub(crate) fn new(subject: Subject, len: usize, alloc: Global) -> Block
-        ensures { IsBlock len result }
+        ensures { (l m : ℕ) → IsBlock subject l m len result }
     {
         Block {
             subject,
@@ -65,30 +65,9 @@ impl Block {
         }
     }
 
-    /// The same of another subject.
-    pub(crate) fn of(self, subject: Subject) -> Block
-        ensures { (n : ℕ) → IsBlock n self → IsBlock n result }
-    {
-        Block { subject, ..self }
-    }
-
-    /// The same with these bytes of the header of a frame.
-    pub(crate) fn with_extended(self, extended: Option<Span>) -> Block
-        ensures { (n : ℕ) → IsBlock n self → IfSome extended (IsSpan n) → IsBlock n result }
-    {
-        Block { extended, ..self }
-    }
-
-    /// The same with this payload.
-    pub(crate) fn with_payload(self, payload: Option<Span>) -> Block
-        ensures { (n : ℕ) → IsBlock n self → IfSome payload (IsSpan n) → IsBlock n result }
-    {
-        Block { payload, ..self }
-    }
-
     /// The same with the entries of its value.
     pub(crate) fn with_value(mut self, value: Vec<Entry>) -> Block
-        ensures { (n : ℕ) → IsBlock n self.entry → IsOutline n value.items → IsBlock n result }
+        ensures { (s : Subject) (l m n : ℕ) → IsBlock s l m n self → IsOutline l m value.items → IsBlock s l m n result }
     {
         self.value = value;
         self
@@ -96,7 +75,7 @@ impl Block {
 
     /// The same with the entries of the sections in its payload.
     pub(crate) fn with_message(mut self, message: Vec<Entry>) -> Block
-        ensures { (n : ℕ) → IsBlock n self.entry → IsOutline n message.items → IsBlock n result }
+        ensures { (s : Subject) (l m n : ℕ) → IsBlock s l m n self → IsOutline m n message.items → IsBlock s l m n result }
     {
         self.message = message;
         self
@@ -104,18 +83,39 @@ impl Block {
 
     /// The same with one more fault, if there is one.
     pub(crate) fn with_fault(mut self, fault: Option<Fault>) -> Result<Block, AllocError>
-        ensures { (n : ℕ) → IsBlock n self.entry → IfSome fault (StandsWithin n) → IfOk result (IsBlock n) }
+        ensures { (s : Subject) (l m n : ℕ) → IsBlock s l m n self → IfSome fault (StandsWithin n) → IfOk result (IsBlock s l m n) }
     {
         if let Some(fault) = fault {
             self.faults.push(fault)?;
         }
         Ok(self)
     }
+
+    /// The same with this payload.
+    pub(crate) fn with_payload(self, payload: Option<Span>) -> Block
+        ensures block { (s : Subject) (l m n : ℕ) → IsBlock s l m n self → IsBlock s l m n result }
+        ensures payload { result.payload ≡ payload }
+    {
+        Block { payload, ..self }
+    }
+
+    /// The same as a whole frame, with these bytes of its header.
+    pub(crate) fn as_frame(self, kind: FrameKind, extended: Option<Span>) -> Block
+        ensures block { (s : Subject) (l m n : ℕ) → IsBlock s l m n self → IsBlock (Subject.Frame kind) l m n result }
+        ensures extended { result.extended ≡ extended }
+        ensures payload { result.payload ≡ self.payload }
+    {
+        Block {
+            subject: Subject::Frame(kind),
+            extended,
+            ..self
+        }
+    }
 }
 
 /// Returns the span if it has a byte.
 pub(crate) fn some_span(from: usize, to: usize) -> Option<Span>
-    ensures { (n : ℕ) → to ≤ n → IfSome result (IsSpan n) }
+    ensures { IsTile from to result }
 {
     if from < to { Some((from, to)) } else { None }
 }

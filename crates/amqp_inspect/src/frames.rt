@@ -1,7 +1,8 @@
 //! The protocol headers and frames of one direction of a connection (Part 2, sections 2.2 and 2.3; Part 5, section 5.3.1).
-ghost use Rattle.std.specs.Prelude.{◌≤◌, ⊥, length, IfOk, IfSome};
+ghost use Rattle.std.specs.Prelude.{◌≤◌, ℕ, ⊥, length, IfOk, IfSome};
 ghost use Rattle.amqp_frames.specs.Tables.{place_of};
-ghost use Rattle.amqp_inspect.specs.Blocks.{BeginsInput, IsBlock, StandsWithin, IfRefused};
+ghost use Rattle.amqp_frames.specs.Frames.{BeginsWithFrame};
+ghost use Rattle.amqp_inspect.specs.Blocks.{BeginsInput, IsBlock, HasBody, HasValue, StandsWithin, IfRefused};
 
 use crate::block::{Block, Subject, some_span};
 use crate::fault::{Cause, Fault, Verdict, verdict_of};
@@ -87,13 +88,13 @@ impl Frames {
         frame: &Frame<'_>,
         alloc: Global,
     ) -> Result<Block, AllocError>
+        requires { (max : ℕ) × BeginsWithFrame max input.now frame.now.header frame.now.extended.now frame.now.body.now }
         ensures { IfOk result (BeginsInput input.now) }
     {
         let len = (frame.header.size as usize).min(input.len());
         let body_at = len.saturating_sub(frame.body.len());
         let block = self.frame_block(&input[..len], body_at, frame.header.kind, alloc)?;
-        let block = block.of(Subject::Frame(frame.header.kind));
-        Ok(block.with_extended(some_span(8, body_at)))
+        Ok(block.as_frame(frame.header.kind, some_span(8, body_at)))
     }
 
     // A frame of these bytes, whose body begins at the place.
@@ -104,41 +105,45 @@ impl Frames {
         kind: FrameKind,
         alloc: Global,
     ) -> Result<Block, AllocError>
-        ensures { body_at ≤ length bytes.now → IfOk result (IsBlock (length bytes.now)) }
+        ensures { body_at ≤ length bytes.now → IfOk result (HasBody body_at (length bytes.now)) }
     {
-        match kind {
+        let (block, end) = match kind {
             FrameKind::Amqp { .. } if body_at >= bytes.len() => {
-                Ok(Block::new(Subject::NoFrame, bytes.len(), alloc))
+                (Block::new(Subject::NoFrame, bytes.len(), alloc), bytes.len())
             }
-            FrameKind::Amqp { channel } => self.amqp_block(bytes, body_at, channel, alloc),
-            FrameKind::Sasl => sasl_block(bytes, body_at, &self.bounds, alloc),
-        }
+            FrameKind::Amqp { channel } => self.amqp_block(bytes, body_at, channel, alloc)?,
+            FrameKind::Sasl => (
+                sasl_block(bytes, body_at, &self.bounds, alloc)?,
+                bytes.len(),
+            ),
+        };
+        Ok(block.with_payload(some_span(end, bytes.len())))
     }
 
-    // A frame with a performative, its payload, and the message that the payload is.
+    // A frame with a performative and the message that its payload is, and where the payload begins.
     fn amqp_block(
         &mut self,
         bytes: &[u8],
         at: usize,
         channel: u16,
         alloc: Global,
-    ) -> Result<Block, AllocError>
-        ensures { at ≤ length bytes.now → IfOk result (IsBlock (length bytes.now)) }
+    ) -> Result<(Block, usize), AllocError>
+        ensures { at ≤ length bytes.now → IfOk result (HasValue at (length bytes.now)) }
     {
         let (block, end) = value_block(bytes, at, alloc)?;
-        let block = block.with_payload(some_span(end, bytes.len()));
         let body = bytes.get(at..).unwrap_or_default();
-        match self.read_performative(body, channel, alloc)? {
+        let block = match self.read_performative(body, channel, alloc)? {
             Performed::WithMessage if end < bytes.len() => {
                 let block = block.with_message(sections_of(bytes, end, alloc)?);
-                block.with_fault(message_fault(bytes, end, &self.bounds, alloc)?)
+                block.with_fault(message_fault(bytes, end, &self.bounds, alloc)?)?
             }
-            Performed::WithMessage | Performed::Other => Ok(block),
+            Performed::WithMessage | Performed::Other => block,
             Performed::Refused(refusal) => {
                 let fault = Fault::of_term(refusal, bytes, at, at, alloc)?;
-                block.with_fault(Some(fault))
+                block.with_fault(Some(fault))?
             }
-        }
+        };
+        Ok((block, end))
     }
 
     // Reads the performative that a body begins with.
@@ -199,8 +204,7 @@ impl Frames {
 // A block of these bytes with the value that begins at the place, and where the value ends. If none begins there, this is the end of the
 // bytes; the fault is found by reading the value.
 fn value_block(bytes: &[u8], at: usize, alloc: Global) -> Result<(Block, usize), AllocError>
-    ensures { at ≤ length bytes.now
-        → IfOk result (λ found. IsBlock (length bytes.now) found.0 × (found.1 ≤ length bytes.now)) }
+    ensures { at ≤ length bytes.now → IfOk result (HasValue at (length bytes.now)) }
 {
     let Outline { entries, end } = outline_at(bytes, at, alloc)?;
     let block = Block::new(Subject::NoFrame, bytes.len(), alloc).with_value(entries);
@@ -214,7 +218,7 @@ fn sasl_block(
     bounds: &Bounds,
     alloc: Global,
 ) -> Result<Block, AllocError>
-    ensures { at ≤ length bytes.now → IfOk result (IsBlock (length bytes.now)) }
+    ensures { at ≤ length bytes.now → IfOk result (IsBlock Subject.NoFrame at (length bytes.now) (length bytes.now)) }
 {
     let (block, _) = value_block(bytes, at, alloc)?;
     block.with_fault(sasl_fault(bytes, at, bounds, alloc)?)
@@ -258,7 +262,7 @@ fn header_block(input: &[u8], is_end: bool, alloc: Global) -> Result<Option<Bloc
 
 // A protocol header or a frame whose end is missing.
 fn cut_block(input: &[u8], count: usize, alloc: Global) -> Result<Block, AllocError>
-    ensures { IfOk result (IsBlock (length input.now)) }
+    ensures { (l m : ℕ) → IfOk result (IsBlock Subject.CutFrame l m (length input.now)) }
 {
     let fault = Fault::at(Cause::Ended(count), input.len(), alloc);
     Block::new(Subject::CutFrame, input.len(), alloc).with_fault(Some(fault))
@@ -266,7 +270,7 @@ fn cut_block(input: &[u8], count: usize, alloc: Global) -> Result<Block, AllocEr
 
 // A frame whose end is missing, with what there is of its body.
 fn cut_frame(input: &[u8], count: usize, alloc: Global) -> Result<Block, AllocError>
-    ensures { IfOk result (IsBlock (length input.now)) }
+    ensures { IfOk result (BeginsInput input.now) }
 {
     let block = cut_block(input, count, alloc)?;
     let Some(data_offset) = input.get(4) else {

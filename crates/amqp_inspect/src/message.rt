@@ -79,7 +79,7 @@ pub(crate) fn sections_of(
     from: usize,
     alloc: Global,
 ) -> Result<Vec<Entry>, AllocError>
-    ensures { from ≤ length bytes.now → IfOk result (λ entries. IsOutline (length bytes.now) entries.items) }
+    ensures { from ≤ length bytes.now → IfOk result (λ entries. IsOutline from (length bytes.now) entries.items) }
 {
     let mut entries = Vec::new(alloc);
     let mut at = from;

@@ -104,7 +104,7 @@ pub(crate) struct Outline {
 
 /// Returns the outline of the term that begins at the place.
 pub(crate) fn outline_at(input: &[u8], at: usize, alloc: Global) -> Result<Outline, AllocError>
-    ensures outline { at ≤ length input.now → IfOk result (λ o. IsOutline (unwrap_or o.end (length input.now)) o.entries.items) }
+    ensures outline { at ≤ length input.now → IfOk result (λ o. IsOutline at (unwrap_or o.end (length input.now)) o.entries.items) }
     ensures ends { IfOk result (λ o. IfSome o.end (λ end. (at ≤ end) × (end ≤ length input.now))) }
 {
     let mut entries = Vec::new(alloc);
@@ -120,8 +120,8 @@ pub(crate) fn add_outline(
     entries: &mut Vec<Entry>,
     alloc: Global,
 ) -> Result<Option<usize>, AllocError>
-    ensures outline { at ≤ length input.now → IsOutline at entries.old.items
-        → IfOk result (λ end. IsOutline (unwrap_or end (length input.now)) entries.new.items) }
+    ensures outline { at ≤ length input.now → (l : ℕ) → l ≤ at → IsOutline l at entries.old.items
+        → IfOk result (λ end. IsOutline l (unwrap_or end (length input.now)) entries.new.items) }
     ensures ends { IfOk result (λ found. IfSome found (λ end. (at ≤ end) × (end ≤ length input.now))) }
 {
     match met_at(input, at, &Node::NOTHING) {
@@ -138,8 +138,8 @@ fn add_root(
     alloc: Global,
 ) -> Result<Option<usize>, AllocError>
     requires { IsMet root.now }
-    ensures outline { root.now.node.end ≤ length input.now → IsOutline root.now.from entries.old.items
-        → IfOk result (λ end. IsOutline (unwrap_or end (length input.now)) entries.new.items) }
+    ensures outline { root.now.node.end ≤ length input.now → (l : ℕ) → l ≤ root.now.from → IsOutline l root.now.from entries.old.items
+        → IfOk result (λ end. IsOutline l (unwrap_or end (length input.now)) entries.new.items) }
     ensures ends { root.now.node.end ≤ length input.now
         → IfOk result (λ found. IfSome found (λ end. (root.now.from ≤ end) × (end ≤ length input.now))) }
 {
@@ -155,7 +155,8 @@ fn add_values(
     alloc: Global,
 ) -> Result<(), AllocError>
     requires { IsMet root.now }
-    ensures { IsOutline root.now.from entries.old.items → OnOk result (IsOutline root.now.node.end entries.new.items) }
+    ensures { (l : ℕ) → l ≤ root.now.from → IsOutline l root.now.from entries.old.items
+        → OnOk result (IsOutline l root.now.node.end entries.new.items) }
 {
     let mut opened = Vec::new(alloc);
     enter(input, root, Label::Whole, 0, &mut opened, entries)?;
@@ -171,7 +172,7 @@ fn add_parts(
     opened: &mut Vec<Open>,
     entries: &mut Vec<Entry>,
 ) -> Result<(), AllocError>
-    ensures { (n : ℕ) → Grows n entries.old.items opened.old.items → OnOk result (Grows n entries.new.items opened.new.items) }
+    ensures { (l n : ℕ) → Grows l n entries.old.items opened.old.items → OnOk result (Grows l n entries.new.items opened.new.items) }
 {
     'values: for _ in 0..steps {
         if !step(input, opened, entries)? {
@@ -183,7 +184,7 @@ fn add_parts(
 
 // Meets the next value, or leaves one. It returns whether there is more: nothing is behind a value that isn't whole.
 fn step(input: &[u8], opened: &mut Vec<Open>, entries: &mut Vec<Entry>) -> Result<bool, AllocError>
-    ensures { (n : ℕ) → Grows n entries.old.items opened.old.items → OnOk result (Grows n entries.new.items opened.new.items) }
+    ensures { (l n : ℕ) → Grows l n entries.old.items opened.old.items → OnOk result (Grows l n entries.new.items opened.new.items) }
 {
     match opened.pop() {
         None => Ok(false),
@@ -198,8 +199,8 @@ fn step_in(
     opened: &mut Vec<Open>,
     entries: &mut Vec<Entry>,
 ) -> Result<bool, AllocError>
-    ensures { (n : ℕ) → Grows n entries.old.items (opened.old.items ++ around ∷ [])
-        → OnOk result (Grows n entries.new.items opened.new.items) }
+    ensures { (l n : ℕ) → Grows l n entries.old.items (opened.old.items ++ around ∷ [])
+        → OnOk result (Grows l n entries.new.items opened.new.items) }
 {
     match next_in(input, &around) {
         Next::Part(met) => meet(input, &around, &met, opened, entries),
@@ -237,8 +238,8 @@ fn meet(
     entries: &mut Vec<Entry>,
 ) -> Result<bool, AllocError>
     requires { IsMetAt input.now around.now.next around.now.node met.now }
-    ensures { (n : ℕ) → Grows n entries.old.items (opened.old.items ++ around.now ∷ [])
-        → OnOk result (Grows n entries.new.items opened.new.items) }
+    ensures { (l n : ℕ) → Grows l n entries.old.items (opened.old.items ++ around.now ∷ [])
+        → OnOk result (Grows l n entries.new.items opened.new.items) }
 {
     let later = around.behind_part(met);
     opened.push(later)?;
@@ -247,8 +248,8 @@ fn meet(
 
 // Leaves a value, whose parts have all come.
 fn leave(around: &Open, entries: &mut Vec<Entry>) -> Result<bool, AllocError>
-    ensures { (n : ℕ) (opened : List Open) → Grows n entries.old.items (opened ++ around.now ∷ [])
-        → OnOk result (Grows n entries.new.items opened) }
+    ensures { (l n : ℕ) (opened : List Open) → Grows l n entries.old.items (opened ++ around.now ∷ [])
+        → OnOk result (Grows l n entries.new.items opened) }
 {
     add_left_out(around, entries)?;
     Ok(around.is_whole)
@@ -256,8 +257,8 @@ fn leave(around: &Open, entries: &mut Vec<Entry>) -> Result<bool, AllocError>
 
 // Appends the fields that are left out behind the last one, and have a default value.
 fn add_left_out(around: &Open, entries: &mut Vec<Entry>) -> Result<(), AllocError>
-    ensures { (n : ℕ) (opened : List Open) → Grows n entries.old.items (opened ++ around.now ∷ [])
-        → OnOk result (Grows n entries.new.items (opened ++ around.now ∷ [])) }
+    ensures { (l n : ℕ) (opened : List Open) → Grows l n entries.old.items (opened ++ around.now ∷ [])
+        → OnOk result (Grows l n entries.new.items (opened ++ around.now ∷ [])) }
 {
     let Labels::Fields(named) = around.labels else {
         return Ok(());
@@ -278,8 +279,8 @@ fn add_omitted(
     index: usize,
     entries: &mut Vec<Entry>,
 ) -> Result<(), AllocError>
-    ensures { (n : ℕ) (opened : List Open) → Grows n entries.old.items (opened ++ around.now ∷ [])
-        → OnOk result (Grows n entries.new.items (opened ++ around.now ∷ [])) }
+    ensures { (l n : ℕ) (opened : List Open) → Grows l n entries.old.items (opened ++ around.now ∷ [])
+        → OnOk result (Grows l n entries.new.items (opened ++ around.now ∷ [])) }
 {
     if default_of(named, index).is_none() {
         return Ok(());
@@ -323,8 +324,8 @@ fn enter(
     entries: &mut Vec<Entry>,
 ) -> Result<bool, AllocError>
     requires { IsMet met.now }
-    ensures { (n : ℕ) → Grows n entries.old.items opened.old.items → Meets n depth met.now entries.old.items opened.old.items
-        → OnOk result (Grows n entries.new.items opened.new.items) }
+    ensures { (l n : ℕ) → Grows l n entries.old.items opened.old.items → Meets l n depth met.now entries.old.items opened.old.items
+        → OnOk result (Grows l n entries.new.items opened.new.items) }
 {
     match shown_as(input, met, label) {
         None => Ok(true),
@@ -343,8 +344,8 @@ fn enter_shown(
 ) -> Result<bool, AllocError>
     requires met { IsMet met.now }
     requires inside { IfSome shown.inside (IsInside met.now) }
-    ensures { (n : ℕ) → Grows n entries.old.items opened.old.items → Meets n depth met.now entries.old.items opened.old.items
-        → OnOk result (Grows n entries.new.items opened.new.items) }
+    ensures { (l n : ℕ) → Grows l n entries.old.items opened.old.items → Meets l n depth met.now entries.old.items opened.old.items
+        → OnOk result (Grows l n entries.new.items opened.new.items) }
 {
     entries.push(entry_of(met, label, depth, &shown))?;
     match shown.inside {
@@ -360,8 +361,8 @@ fn open_parts(
     is_whole: bool,
     opened: &mut Vec<Open>,
 ) -> Result<bool, AllocError>
-    ensures { (n : ℕ) (entries : List Entry) → Grows n entries opened.old.items
-        → Grows n entries (opened.old.items ++ record parts { depth = depth + 1 } ∷ []) → OnOk result (Grows n entries opened.new.items) }
+    ensures { (l n : ℕ) (entries : List Entry) → Grows l n entries opened.old.items
+        → Grows l n entries (opened.old.items ++ record parts { depth = depth + 1 } ∷ []) → OnOk result (Grows l n entries opened.new.items) }
 {
     if depth > MOST_DEPTH {
         return Ok(is_whole);

@@ -4,5 +4,5 @@ use Rattle.amqp_inspect.specs.Outlines.{Grows}
 use Rattle.amqp_inspect.proofs.outline.add_left_out.Given as goal
 
 abbrev pub invariant-omitted : goal.invariant-omitted
-invariant-omitted l = (n : ℕ) (opened : List Open) → Grows n l.fn.entries.items (opened ++ l.around ∷ [])
-    → Grows n l.entries.items (opened ++ l.around ∷ [])
+invariant-omitted l = (l n : ℕ) (opened : List Open) → Grows l n l.fn.entries.items (opened ++ l.around ∷ [])
+    → Grows l n l.entries.items (opened ++ l.around ∷ [])

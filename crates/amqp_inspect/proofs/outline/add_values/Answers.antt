@@ -4,10 +4,10 @@ use Rattle.amqp_inspect.proofs.OutlineLemmas.{begun, outline_of}
 use Rattle.amqp_inspect.proofs.outline.add_values.Goals as goal
 
 pub returns : goal.returns
-returns c = λ h.
+returns c = λ l low h.
     let n = c.args.root.now.node.end in
     let le : n ≤ n = omega arith in
-    let both = begun n c.args.root.now.from c.args.entries.now.items c.args.root.now h refl refl c.requires in
-    let g = c.in_ok-enter.ensures n (rw c.new-opened.ensures.items both.0) (rw c.new-opened.ensures.items both.1) in
+    let both = begun l n c.args.root.now.from c.args.entries.now.items c.args.root.now low h refl refl c.requires in
+    let g = c.in_ok-enter.ensures l n (rw c.new-opened.ensures.items both.0) (rw c.new-opened.ensures.items both.1) in
     on_ok_weaker c.add_parts.result
-    (λ grown. outline_of n n c.add_parts.new.entries.items c.add_parts.new.opened.items grown le) (c.add_parts.ensures n g)
+    (λ grown. outline_of l n n c.add_parts.new.entries.items c.add_parts.new.opened.items grown le) (c.add_parts.ensures l n g)
