@@ -65,7 +65,7 @@ fn strict_messages(rt: HostRuntime) -> Result<(), Fail> {
     Ok(())
 }
 
-fn strict_sections<B: FromBody>(digits: &str, alloc: Global) -> Result<usize, Fail> {
+fn strict_sections<B: FromBody>(digits: &str, alloc: Global) -> Result<u32, Fail> {
     let input = hex::decode(alloc, digits)?;
     let mut reader = input.as_slice();
     let message: Message<B> = decode_message_strict(&mut reader, alloc)?;

@@ -6,7 +6,7 @@ use crate::message::Message;
 use amqp_wire::section_code;
 
 // One for a section that is present.
-fn count<T>(section: &Option<T>) -> usize
+fn count<T>(section: &Option<T>) -> u32
     ensures count { result ≡ one_if_there section.now }
     ensures few { result ≤ 1 }
 {
@@ -18,7 +18,7 @@ fn count<T>(section: &Option<T>) -> usize
 
 impl<B> Message<B> {
     /// Returns how many sections it has: one for the body, and the others that are present.
-    pub fn sections(&self) -> usize
+    pub fn sections(&self) -> u32
         ensures { result ≡ sections_of self.now }
     {
         let annotations = count(&self.delivery_annotations) + count(&self.message_annotations);

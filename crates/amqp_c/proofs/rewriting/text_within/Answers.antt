@@ -1,6 +1,8 @@
 use Rattle.std.proofs.Common.{inl, inr, refl}
+use Rattle.std.proofs.lemmas.Result.{err_from_is_err_and}
 use Rattle.amqp_read_write.proofs.Rewrites.{not_written}
 use Rattle.amqp_read_write.proofs.Placed.{placed}
+use Rattle.amqp_c.proofs.Requests.{refused_at}
 use Rattle.amqp_c.proofs.rewriting.text_within.Goals as goal
 
 pub returns-in-Ok-clause-text : goal.returns-in-Ok-clause-text
@@ -23,3 +25,12 @@ returns-clause-refused g c =
       | inl m ↦ inl m
       | inr u ↦ inr (inr u)
     ]
+
+pub returns-in_err-value-clause-refused : goal.returns-in_err-value-clause-refused
+returns-in_err-value-clause-refused g c =
+    let p = err_from_is_err_and c.from_residual.result c.from_residual.ensures.1 in
+    rw (p.1, p.2)
+    (elim (refused_at c.in_err-value.ensures.refused c.in_err-value.ensures.place) [
+      | inl m ↦ inl m
+      | inr u ↦ inr (inl u)
+    ])
