@@ -84,7 +84,7 @@ impl Attach {
         ensures name { result.name ≡ name }
         ensures handle { result.handle ≡ handle }
         ensures role { result.role ≡ role }
-        ensures others { IsBlank (fields_of attach) result }
+        ensures others { IsBlank attach.fields result }
     {
         Attach {
             name,

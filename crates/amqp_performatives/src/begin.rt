@@ -68,7 +68,7 @@ impl Begin {
         ensures next_outgoing_id { result.next_outgoing_id ≡ next_outgoing_id }
         ensures incoming_window { result.incoming_window ≡ incoming_window }
         ensures outgoing_window { result.outgoing_window ≡ outgoing_window }
-        ensures others { IsBlank (fields_of begin) result }
+        ensures others { IsBlank begin.fields result }
     {
         Begin {
             remote_channel: None,

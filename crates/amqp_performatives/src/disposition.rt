@@ -54,7 +54,7 @@ impl Disposition {
     pub fn new(role: Role, first: DeliveryNumber) -> Disposition
         ensures role { result.role ≡ role }
         ensures first { result.first ≡ first }
-        ensures others { IsBlank (fields_of disposition) result }
+        ensures others { IsBlank disposition.fields result }
     {
         Disposition {
             role,

@@ -69,7 +69,7 @@ impl Flow {
         ensures incoming_window { result.incoming_window ≡ incoming_window }
         ensures next_outgoing_id { result.next_outgoing_id ≡ next_outgoing_id }
         ensures outgoing_window { result.outgoing_window ≡ outgoing_window }
-        ensures others { IsBlank (fields_of flow) result }
+        ensures others { IsBlank flow.fields result }
     {
         Flow {
             next_incoming_id: None,

@@ -68,7 +68,7 @@ impl Open {
     #[inline(always)]
     pub fn new(container_id: String) -> Open
         ensures container_id { result.container_id ≡ container_id }
-        ensures others { IsBlank (fields_of opening) result }
+        ensures others { IsBlank opening.fields result }
     {
         Open {
             container_id,

@@ -70,7 +70,7 @@ impl Transfer {
     #[inline(always)]
     pub fn new(handle: Handle) -> Transfer
         ensures handle { result.handle ≡ handle }
-        ensures others { IsBlank (fields_of transfer) result }
+        ensures others { IsBlank transfer.fields result }
     {
         Transfer {
             handle,
