@@ -43,10 +43,7 @@ pub(crate) struct Options {
 }
 
 /// Returns the command line of the program. The names are those that `--type` takes.
-pub(crate) fn command<'a>(
-    names: &'a [&'a str],
-    alloc: Global,
-) -> Result<Command<'a>, AllocError> {
+pub(crate) fn command<'a>(names: &'a [&'a str], alloc: Global) -> Result<Command<'a>, AllocError> {
     let command = Command::new(alloc, "amqp-inspect")
         .about(ABOUT)
         .override_usage(USAGE)
@@ -68,10 +65,13 @@ fn with_forms<'a>(
         .value_parser(names)
         .hide_possible_values(true)
         .help("One value of a type, as open, source or message-id");
-    let forms = ArgGroup::new(alloc, "form")
-        .args(["frames", "message", "strict", "term", "type"].as_slice())?;
+    let forms = ArgGroup::new(alloc, "form").args([
+        "frames", "message", "strict", "term", "type",
+    ].as_slice())?;
     command
-        .arg(arg!(in alloc; --frames "What one side of a connection sends: protocol headers and frames"))?
+        .arg(
+            arg!(in alloc; --frames "What one side of a connection sends: protocol headers and frames"),
+        )?
         .arg(arg!(in alloc; --message "One message, as its sections"))?
         .arg(arg!(in alloc; --strict "One message, with its sections in the standard's order"))?
         .arg(arg!(in alloc; --term "One term of any type"))?
@@ -83,7 +83,9 @@ fn with_forms<'a>(
 fn with_answers<'a>(command: Command<'a>, alloc: Global) -> Result<Command<'a>, AllocError> {
     let answers = ArgGroup::new(alloc, "answer").args(["json", "html"].as_slice())?;
     command
-        .arg(arg!(in alloc; --hex "The input is hexadecimal digits, with any white space, comments from # to the end of the line, and the offsets of xxd and tcpdump -x"))?
+        .arg(
+            arg!(in alloc; --hex "The input is hexadecimal digits, with any white space, comments from # to the end of the line, and the offsets of xxd and tcpdump -x"),
+        )?
         .arg(arg!(in alloc; --json "Print a line of JSON for each frame, section or term"))?
         .arg(arg!(in alloc; --html "Print a page for a browser, with the bytes beside the values"))?
         .group(answers)
@@ -91,14 +93,22 @@ fn with_answers<'a>(command: Command<'a>, alloc: Global) -> Result<Command<'a>, 
 
 // What frames and values may have at most.
 fn with_limits<'a>(command: Command<'a>, alloc: Global) -> Result<Command<'a>, AllocError> {
-    let max_frame = arg!(in alloc; --"max-frame" <N> "The most bytes of a frame, at least 512; without it there is no limit")
-        .value_parser(value_parser!(u32).range(512..));
-    let nesting = arg!(in alloc; --nesting <N> "How deep values may nest, at most 128")
-        .value_parser(value_parser!(u32).range(..129));
-    let bytes = arg!(in alloc; --bytes <N> "The most bytes of a value; without it there is no limit")
-        .value_parser(value_parser!(u64));
-    let items = arg!(in alloc; --items <N> "The most items of a value; without it 65536, and four for each byte")
-        .value_parser(value_parser!(u64));
+    let max_frame =
+        arg!(in alloc; --"max-frame" <N> "The most bytes of a frame, at least 512; without it there is no limit").value_parser(
+            value_parser!(u32).range(512..),
+        );
+    let nesting =
+        arg!(in alloc; --nesting <N> "How deep values may nest, at most 128").value_parser(
+            value_parser!(u32).range(..129),
+        );
+    let bytes =
+        arg!(in alloc; --bytes <N> "The most bytes of a value; without it there is no limit").value_parser(
+            value_parser!(u64),
+        );
+    let items =
+        arg!(in alloc; --items <N> "The most items of a value; without it 65536, and four for each byte").value_parser(
+            value_parser!(u64),
+        );
     command.arg(max_frame)?.arg(nesting)?.arg(bytes)?.arg(items)
 }
 
@@ -144,8 +154,12 @@ fn answer_of(matches: &ArgMatches<'_>) -> Answer {
 
 fn bounds_of(matches: &ArgMatches<'_>) -> Bounds {
     Bounds {
-        nesting: matches.get_one::<u32>("nesting").unwrap_or(Bounds::DEFAULT.nesting),
-        bytes: matches.get_one::<u64>("bytes").unwrap_or(Bounds::DEFAULT.bytes),
+        nesting: matches
+            .get_one::<u32>("nesting")
+            .unwrap_or(Bounds::DEFAULT.nesting),
+        bytes: matches
+            .get_one::<u64>("bytes")
+            .unwrap_or(Bounds::DEFAULT.bytes),
         items: matches.get_one::<u64>("items"),
     }
 }

@@ -122,7 +122,13 @@ fn write_content(out: &mut String, part: Part<'_>, entry: &Entry) -> Result<(), 
         Shape::Array(_, _) => write_count(out, "array", count, "item"),
         Shape::Named(named, _) => {
             let colours = part.colours;
-            write!(out, "{}{}{} (", colours.heading, name_of(named), colours.end)
+            write!(
+                out,
+                "{}{}{} (",
+                colours.heading,
+                name_of(named),
+                colours.end
+            )
         }
         Shape::Described => out.push_str("described value ("),
     }

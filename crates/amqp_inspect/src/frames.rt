@@ -109,7 +109,10 @@ impl Frames {
     {
         let (block, end) = match kind {
             FrameKind::Amqp { .. } if body_at >= bytes.len() => {
-                (Block::new(Subject::NoFrame, bytes.len(), alloc), bytes.len())
+                (
+                    Block::new(Subject::NoFrame, bytes.len(), alloc),
+                    bytes.len(),
+                )
             }
             FrameKind::Amqp { channel } => self.amqp_block(bytes, body_at, channel, alloc)?,
             FrameKind::Sasl => (
@@ -212,12 +215,7 @@ fn value_block(bytes: &[u8], at: usize, alloc: Global) -> Result<(Block, usize),
 }
 
 // A frame whose body is the value of a SASL frame, and nothing else (Part 5, section 5.3.1).
-fn sasl_block(
-    bytes: &[u8],
-    at: usize,
-    bounds: &Bounds,
-    alloc: Global,
-) -> Result<Block, AllocError>
+fn sasl_block(bytes: &[u8], at: usize, bounds: &Bounds, alloc: Global) -> Result<Block, AllocError>
     ensures { at ≤ length bytes.now → IfOk result (IsBlock Subject.NoFrame at (length bytes.now) (length bytes.now)) }
 {
     let (block, _) = value_block(bytes, at, alloc)?;

@@ -6,10 +6,9 @@ use crate::colours::Colours;
 use crate::html::write_element;
 use crate::input::{Input, PIECE};
 use crate::json::json_of_block;
-use crate::page;
 use crate::progress::Progress;
 use crate::source::Source;
-use crate::text;
+use crate::{page, text};
 use std::alloc::Global;
 use std::fmt::Write as _;
 use std::io;
@@ -128,7 +127,11 @@ impl Printer {
         }
         if self.saving > 0 {
             let plural = if self.saving == 1 { "" } else { "s" };
-            write!(self.out, "canonical encodings have {} byte{plural} less\n", self.saving)?;
+            write!(
+                self.out,
+                "canonical encodings have {} byte{plural} less\n",
+                self.saving
+            )?;
             self.flush(rt, 0)?;
         }
         Ok(())

@@ -123,10 +123,18 @@ fn headed(block: &Block) -> (&'static str, &[Entry], usize) {
 
 // A fault: the sentence, the path, and the bytes around the place.
 fn write_fault(out: &mut String, part: Part<'_>, fault: &Fault) -> Result<(), AllocError> {
-    let Colours { fault: red, end, .. } = part.colours;
+    let Colours {
+        fault: red,
+        end,
+        ..
+    } = part.colours;
     let cause = fault.cause;
     let at = part.place(fault.at);
-    writeln!(out, "  {red}fault: {cause} at byte {at} ({}){end}", cause.name())?;
+    writeln!(
+        out,
+        "  {red}fault: {cause} at byte {at} ({}){end}",
+        cause.name()
+    )?;
     if !fault.path.is_empty() {
         writeln!(out, "    path: {}", fault.path)?;
     }
