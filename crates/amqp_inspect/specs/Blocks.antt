@@ -18,8 +18,8 @@ abbrev pub StandsWithin : ℕ → Fault → Type 0
 StandsWithin n fault = fault.at ≤ n
 
 -- The block has n bytes. Its value is from the place l to the place m, the sections of its payload come behind that, and its faults are in it.
-pub record IsBlock (subject : Subject) (l m n : ℕ) (b : Block) : Type 0 where
-  pub subject : b.subject ≡ subject
+pub record IsBlock (s : Subject) (l m n : ℕ) (b : Block) : Type 0 where
+  pub subject : b.subject ≡ s
   pub len : b.len ≡ n
   pub value : IsOutline l m b.value.items
   pub message : IsOutline m n b.message.items

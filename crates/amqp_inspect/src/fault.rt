@@ -1,6 +1,6 @@
 //! Faults, each with its place and the path to it.
 ghost use Rattle.std.specs.Prelude.{◌≡◌, ◌+◌, ◌-◌, ◌<◌, ◌^◌, length, IfOk};
-ghost use Rattle.amqp_frames.specs.Tables.{place_of};
+ghost use Rattle.amqp_frames.specs.FrameErrors.{place_of};
 ghost use Rattle.amqp_inspect.specs.Faults.{IsVerdict, IsTermVerdict, EndsWithin};
 
 use crate::path::path_text;

@@ -4,5 +4,5 @@ use Rattle.amqp_inspect.specs.Outlines.{Grows}
 use Rattle.amqp_inspect.proofs.outline.add_left_out.Given as goal
 
 abbrev pub invariant-omitted : goal.invariant-omitted
-invariant-omitted l = (l n : ℕ) (opened : List Open) → Grows l n l.fn.entries.items (opened ++ l.around ∷ [])
-    → Grows l n l.entries.items (opened ++ l.around ∷ [])
+invariant-omitted t = (l n : ℕ) (opened : List Open) → Grows l n t.fn.entries.items (opened ++ t.around ∷ [])
+    → Grows l n t.entries.items (opened ++ t.around ∷ [])
