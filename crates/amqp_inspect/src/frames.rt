@@ -1,5 +1,5 @@
 //! The protocol headers and frames of one direction of a connection (Part 2, sections 2.2 and 2.3; Part 5, section 5.3.1).
-ghost use Rattle.std.specs.Prelude.{◌≤◌, ℕ, ⊥, length, IfOk, IfSome};
+ghost use Rattle.std.specs.Prelude.{◌≤◌, ℕ, length, IfOk, IfSome};
 ghost use Rattle.amqp_frames.specs.FrameErrors.{place_of};
 ghost use Rattle.amqp_frames.specs.Frames.{BeginsWithFrame};
 ghost use Rattle.amqp_inspect.specs.Blocks.{BeginsInput, IsBlock, HasBody, HasValue, StandsWithin, IfRefused};
