@@ -123,6 +123,7 @@ pub mod laws {
 
 /// The types of messaging (Part 3).
 pub mod messaging {
+    pub use amqp_annotations::Annotations;
     pub use amqp_batches::Batch;
     pub use amqp_bodies::{
         AsBodyRef, Body, CanonicalBody, DataIter, DeserializableBody, FromBody, FromEmptyBody,
