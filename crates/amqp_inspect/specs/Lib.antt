@@ -1,0 +1,4 @@
+pub mod Spans
+pub mod Outlines
+pub mod Faults
+pub mod Blocks
