@@ -65,9 +65,12 @@ fn with_forms<'a>(
         .value_parser(names)
         .hide_possible_values(true)
         .help("One value of a type, as open, source or message-id");
-    let forms = ArgGroup::new(alloc, "form").args([
-        "frames", "message", "strict", "term", "type",
-    ].as_slice())?;
+    let forms = ArgGroup::new(alloc, "form")
+        .arg("frames")?
+        .arg("message")?
+        .arg("strict")?
+        .arg("term")?
+        .arg("type")?;
     command
         .arg(
             arg!(in alloc; --frames "What one side of a connection sends: protocol headers and frames"),
@@ -81,7 +84,7 @@ fn with_forms<'a>(
 
 // How the input is written, and what is printed of it.
 fn with_answers<'a>(command: Command<'a>, alloc: Global) -> Result<Command<'a>, AllocError> {
-    let answers = ArgGroup::new(alloc, "answer").args(["json", "html"].as_slice())?;
+    let answers = ArgGroup::new(alloc, "answer").arg("json")?.arg("html")?;
     command
         .arg(
             arg!(in alloc; --hex "The input is hexadecimal digits, with any white space, comments from # to the end of the line, and the offsets of xxd and tcpdump -x"),

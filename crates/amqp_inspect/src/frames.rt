@@ -1,7 +1,8 @@
 //! The protocol headers and frames of one direction of a connection (Part 2, sections 2.2 and 2.3; Part 5, section 5.3.1).
-ghost use Rattle.std.specs.Prelude.{◌≤◌, ℕ, length, IfOk, IfSome};
+ghost use Rattle.std.specs.Prelude.{◌≤◌, ◌+◌, ℕ, length, IfOk, IfSome};
 ghost use Rattle.amqp_frames.specs.FrameErrors.{place_of};
 ghost use Rattle.amqp_frames.specs.Frames.{BeginsWithFrame};
+ghost use Rattle.amqp_inspect.specs.declared.block.Subject.{Subject};
 ghost use Rattle.amqp_inspect.specs.Blocks.{BeginsInput, IsBlock, HasBody, HasValue, StandsWithin, IfRefused};
 
 use crate::block::{Block, Subject, some_span};
@@ -137,14 +138,10 @@ impl Frames {
         let body = bytes.get(at..).unwrap_or_default();
         let block = match self.read_performative(body, channel, alloc)? {
             Performed::WithMessage if end < bytes.len() => {
-                let block = block.with_message(sections_of(bytes, end, alloc)?);
-                block.with_fault(message_fault(bytes, end, &self.bounds, alloc)?)?
+                with_sections(block, bytes, end, &self.bounds, alloc)?
             }
             Performed::WithMessage | Performed::Other => block,
-            Performed::Refused(refusal) => {
-                let fault = Fault::of_term(refusal, bytes, at, at, alloc)?;
-                block.with_fault(Some(fault))?
-            }
+            Performed::Refused(refusal) => with_refusal(block, refusal, bytes, at, alloc)?,
         };
         Ok((block, end))
     }
@@ -214,12 +211,46 @@ fn value_block(bytes: &[u8], at: usize, alloc: Global) -> Result<(Block, usize),
     Ok((block, end.unwrap_or(bytes.len())))
 }
 
+// The block of these bytes with the message that begins at the place.
+fn with_sections(
+    block: Block,
+    bytes: &[u8],
+    from: usize,
+    bounds: &Bounds,
+    alloc: Global,
+) -> Result<Block, AllocError>
+    ensures { (s : Subject) (l : ℕ) → from ≤ length bytes.now → IsBlock s l from (length bytes.now) block
+        → IfOk result (IsBlock s l from (length bytes.now)) }
+{
+    let sections = sections_of(bytes, from, alloc)?;
+    let fault = message_fault(bytes, from, bounds, alloc)?;
+    block.with_message(sections).with_fault(fault)
+}
+
+// The block of these bytes with the fault of the value that would begin at the place.
+fn with_refusal(
+    block: Block,
+    refusal: Refusal,
+    bytes: &[u8],
+    at: usize,
+    alloc: Global,
+) -> Result<Block, AllocError>
+    ensures { (s : Subject) (l m : ℕ) → at + refusal.at ≤ length bytes.now → IsBlock s l m (length bytes.now) block
+        → IfOk result (IsBlock s l m (length bytes.now)) }
+{
+    let fault = Fault::of_term(refusal, bytes, at, at, alloc)?;
+    block.with_fault(Some(fault))
+}
+
 // A frame whose body is the value of a SASL frame, and nothing else (Part 5, section 5.3.1).
 fn sasl_block(bytes: &[u8], at: usize, bounds: &Bounds, alloc: Global) -> Result<Block, AllocError>
     ensures { at ≤ length bytes.now → IfOk result (IsBlock Subject.NoFrame at (length bytes.now) (length bytes.now)) }
 {
-    let (block, _) = value_block(bytes, at, alloc)?;
-    block.with_fault(sasl_fault(bytes, at, bounds, alloc)?)
+    let Outline { entries, .. } = outline_at(bytes, at, alloc)?;
+    let fault = sasl_fault(bytes, at, bounds, alloc)?;
+    Block::new(Subject::NoFrame, bytes.len(), alloc)
+        .with_value(entries)
+        .with_fault(fault)
 }
 
 // What is wrong with the body of a SASL frame, if anything is.

@@ -26,6 +26,7 @@ mod kinds;
 mod limits;
 mod meanings;
 mod message;
+mod message_types;
 mod numbers;
 mod outline;
 mod page;

@@ -7,10 +7,9 @@ use crate::block::{Block, Subject};
 use crate::entry::Entry;
 use crate::fault::{Cause, Fault, Verdict, verdict_of};
 use crate::limits::Bounds;
+use crate::message_types::{AnyMessage, StrictMessage};
 use crate::outline::{Outline, add_outline, outline_at};
-use fe2o3_amqp_types::codec::{Deserialize, Value, term_len};
-use fe2o3_amqp_types::messaging::message::Strict;
-use fe2o3_amqp_types::messaging::{Body, Message};
+use fe2o3_amqp_types::codec::{Deserialize, term_len};
 use std::alloc::{AllocError, Global};
 
 /// A message, as far as its sections have been seen.
@@ -31,9 +30,9 @@ impl Sections {
         ensures { IfOk result (IsAhead (length input.now)) }
     {
         let fault = if is_strict {
-            fault_of::<Strict<Body<Value>>>(input, 0, bounds, alloc)?
+            fault_of::<StrictMessage>(input, 0, bounds, alloc)?
         } else {
-            fault_of::<Message<Body<Value>>>(input, 0, bounds, alloc)?
+            fault_of::<AnyMessage>(input, 0, bounds, alloc)?
         };
         Ok(Sections { fault })
     }
@@ -101,7 +100,7 @@ pub(crate) fn message_fault(
 ) -> Result<Option<Fault>, AllocError>
     ensures { from ≤ length bytes.now → IfOk result (λ found. IfSome found (StandsWithin (length bytes.now))) }
 {
-    fault_of::<Message<Body<Value>>>(bytes, from, bounds, alloc)
+    fault_of::<AnyMessage>(bytes, from, bounds, alloc)
 }
 
 // The fault of the message of type T that begins at the place and goes on to the end of the bytes, if it has one.

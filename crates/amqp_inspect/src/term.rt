@@ -7,7 +7,6 @@ use crate::block::{Block, Subject};
 use crate::fault::{Cause, Fault, Verdict, verdict_of, verdict_of_term};
 use crate::limits::Bounds;
 use crate::outline::{Outline, outline_at};
-use amqp_lines::types::*;
 use amqp_lines::{TypeName, types};
 use fe2o3_amqp_types::codec::{LazyValue, Limits};
 use std::alloc::{AllocError, Global};
@@ -85,5 +84,6 @@ impl Term {
 fn verdict_of_type(named: TypeName, input: &[u8], limits: &Limits, alloc: Global) -> Verdict
     ensures { EndsWithin (length input.now) result }
 {
+    use amqp_lines::types::*;
     types!(named, verdict_of(input, limits, alloc))
 }
