@@ -1,0 +1,10 @@
+mod Codes
+mod Past
+mod Here
+mod Primitives
+mod Onward
+mod Contents
+mod Opening
+mod Inside
+mod Ends
+mod Descriptions
