@@ -16,7 +16,7 @@ use Rattle.amqp_decoder.specs.Items.{Row}
 use Rattle.amqp_decoder.specs.Places.{Located}
 use Rattle.amqp_decoder.proofs.Steps.{has_none, lower_none}
 use Rattle.amqp_decoder.proofs.ReadPrimitives.{has_add, lower-lower}
-use Rattle.amqp_placed.specs.Facing.{up_to, bytes_open, IsAround, IsNext, Faces, IsShown}
+use Rattle.amqp_placed.specs.Facing.{up_to, bytes_open, IsAround, IsNext, Faces, Shows, IsShown, IsAt}
 use Rattle.amqp_placed.proofs.Past.{Past, past_code, past_taken, past_value, past_none, past_both, has_bound, past_bytes, lowered_bound}
 use Rattle.amqp_placed.proofs.Past.{lowered_sum, past_length, past_around, past_bound, past_unlimited}
 use Rattle.amqp_placed.proofs.Here.{none_some, code_taken}
@@ -92,6 +92,7 @@ entered_around m n content place around inner room h told = go around inner h to
 -- An item of the container, or its end.
 record Within (kind : Container) (n k d : ℕ) (left : Option ℕ) : Type 0 where
   piece : Piece
+  is : IsAt kind n k piece
   next : IsNext left None piece
   step : (P : Piece) (z data_ items after : List ℕ) (c w behind : ℕ) (inner : Around)
       → Rattle.amqp_lengths.specs.Stands.IsUnder P z c data_ → format c ≡ compound kind w
@@ -106,6 +107,7 @@ within kind other n k d few = go (n - k) refl
         let same : k ≡ n = omega (arith, is, few) in
         record {
           piece = an_end kind n;
+          is = inr (same, refl);
           next = tt;
           step = λ P z data_ items after c w behind inner under is contains row.
               to_end P d z data_ items after c w n behind kind inner under is other contains
@@ -113,15 +115,17 @@ within kind other n k d few = go (n - k) refl
         }
     go (suc left) is = record {
       piece = an_item kind n k;
+      is = inl (omega (arith, is), refl);
       next = tt;
       step = λ P z data_ items after c w behind inner under is' contains row.
           to_item P d z data_ items after c w n k behind kind inner under is' other contains (omega (arith, is)) row;
     }
 
 -- What is shown behind some items of a container is shown of the container.
-pub inside_shown : (kind : Container) → (kind ≡ array → ⊥) → (st first mid : State) (n : ℕ) (ts : List Term) (b : List ℕ) (f : Located)
-    → Opens kind st n first → Row first ts b mid → length ts ≤ n → IsShown mid f → IsShown st f
-inside_shown kind other st first mid n ts b f o row few shown P d around h =
+pub inside_shows : (kind : Container) → (kind ≡ array → ⊥) → (st first mid : State) (n : ℕ) (ts : List Term) (b : List ℕ) (f : Located)
+    → Opens kind st n first → Row first ts b mid → length ts ≤ n
+    → ((P : Piece) (d : ℕ) (around : Around) → IsAt kind n (length ts) P → Faces mid P d around → Shows mid f P d around) → IsShown st f
+inside_shows kind other st first mid n ts b f o row few shown P d around h =
     let x = entering kind o.width o.code P d around st o.mid h o.begun o.announced in
     let e = o.data_ in
     let head = e.header in
@@ -173,4 +177,9 @@ inside_shown kind other st first mid n ts b f o row few shown P d around h =
       length-append (bytes_high_first o.width head.size ++ bytes_high_first o.width n) (bytes_open m),
       length-append b (bytes_open mid),
     ) in
-    onward_shows st mid f around k.inner P w.piece d (suc d) k.behind sum step (shown w.piece (suc d) (outermost around k.inner) faces)
+    onward_shows st mid f around k.inner P w.piece d (suc d) k.behind sum step (shown w.piece (suc d) (outermost around k.inner) w.is faces)
+
+pub inside_shown : (kind : Container) → (kind ≡ array → ⊥) → (st first mid : State) (n : ℕ) (ts : List Term) (b : List ℕ) (f : Located)
+    → Opens kind st n first → Row first ts b mid → length ts ≤ n → IsShown mid f → IsShown st f
+inside_shown kind other st first mid n ts b f o row few shown =
+    inside_shows kind other st first mid n ts b f o row few (λ P d around at faces. shown P d around faces)

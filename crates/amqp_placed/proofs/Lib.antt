@@ -8,3 +8,10 @@ mod Opening
 mod Inside
 mod Ends
 mod Descriptions
+mod Wholes
+mod Fields
+mod Formers
+mod Composites
+mod Items
+mod Sums
+mod Described

@@ -1,1 +1,2 @@
 pub mod Facing
+pub mod Shown

@@ -1,0 +1,24 @@
+-- What has to be shown of the parts of a type.
+use Rattle.std.specs.Prelude.{◌≡◌, ℕ}
+use Rattle.amqp_model.specs.Term.{Term}
+use Rattle.amqp_wire.specs.declared.error.Error.{Error}
+use Rattle.amqp_decoder.specs.State.{State}
+use Rattle.amqp_decoder.specs.Items.{Next}
+use Rattle.amqp_codec.specs.Fields.{Fields, none, field}
+use Rattle.amqp_codec.specs.Members.{Members}
+use Rattle.amqp_sums.specs.Choices.{Choices, no_more, member}
+use Rattle.amqp_placed.specs.Facing.{AreShown}
+
+-- Of each field, that its faults by this error are shown.
+abbrev pub FieldsShown : {V : Type 0} → Error → Fields V → Type 0
+FieldsShown e none = Unit {0}
+FieldsShown e (field get f fs) = AreShown e f.faults.fault × FieldsShown e fs
+
+-- What is read behind the descriptor of a member is one term.
+abbrev pub AreTerms : {V : Type 0} → Members V → Type 0
+AreTerms {V} m = (i : ℕ) (inner : State) (v : V) (last : State) → m.reads i inner v last → (t : Term) × Next inner t last
+
+-- Of each member of a sum, that those of its fields are.
+abbrev pub ChoicesShown : {V : Type 0} → Error → Choices V → Type 0
+ChoicesShown e no_more = Unit {0}
+ChoicesShown e (member c make cs) = FieldsShown e c.fields × ChoicesShown e cs
