@@ -1,12 +1,15 @@
 -- One step further in, and the start of an input.
-use Rattle.std.proofs.Common.{◌≡◌, ℕ, ◌+◌, ◌<◌, ◌≤◌, ◌⊎◌, inr, None, List, ◌++◌, length, refl, sym, subst, arith}
+use Rattle.std.proofs.Common.{◌≡◌, ℕ, ◌+◌, ◌<◌, ◌≤◌, ◌⊎◌, inr, None, List, ◌++◌, length, refl, sym, ap, subst, arith}
 use Rattle.amqp_wire.specs.declared.error.Error.{Error}
 use Rattle.amqp_lengths.specs.Stands.{Piece, a_value, Around, unbounded, whole_one, cut_one, outermost, Step, steps, IsWrong, StandsFrom}
 use Rattle.amqp_lengths.specs.Stands.{StandsAt}
 use Rattle.amqp_decoder.specs.State.{State}
 use Rattle.amqp_decoder.specs.Places.{Located}
-use Rattle.amqp_codec.specs.Reading.{start}
-use Rattle.amqp_placed.specs.Facing.{bytes_open, Faces, Shows, IsShown, AreShown}
+use Rattle.amqp_wire.specs.declared.limits.Limits.{Limits}
+use Rattle.amqp_wire.specs.Limits.{limit_of}
+use Rattle.amqp_decoder.proofs.Rooms.{room_at_top}
+use Rattle.amqp_codec.specs.Reading.{start_within, IsGreatest}
+use Rattle.amqp_placed.specs.Facing.{bytes_open, Inputs, AreMeant, Faces, Shows, IsShown}
 
 outermost_of : (a b c : Around) → outermost (outermost a b) c ≡ outermost a (outermost b c)
 outermost_of unbounded b c = refl
@@ -48,20 +51,21 @@ next_shows st m f around P Q d k own bytes rest step h =
     none_entered whole_one = refl
     none_entered cut_one = refl
 
--- A fault at the start of an input.
-pub starts_facing : (input : List ℕ) → Faces (start input) a_value 0 unbounded
-starts_facing input = record {
-  nesting = refl;
-  uncounted = refl;
-  unlimited = λ none. refl;
+-- A fault at the start of an input, within no limits.
+pub starts_facing : (limits : Limits) (input : List ℕ) → IsGreatest limits → Faces (start_within limits input) a_value 0 unbounded
+starts_facing limits input (deep, bytes, items) = record {
+  nesting = deep;
+  uncounted = ap limit_of items;
+  unlimited = λ none. ap limit_of bytes;
+  room = room_at_top (start_within limits input) refl;
   next = tt;
   is_around = (refl, refl);
   deep = inr (omega arith);
 }
 
-pub shown_stands : (input : List ℕ) (e : Error) (at left : ℕ) → IsShown (start input) (record { error = e; left = left })
-    → at + left ≡ length input → StandsAt input e at
-shown_stands input e at left shown sum =
-    let s = shown a_value 0 unbounded (starts_facing input) in
+pub shown_stands : (inputs : Inputs) (limits : Limits) (input : List ℕ) (e : Error) (at left : ℕ) → AreMeant inputs input → IsGreatest limits
+    → IsShown inputs (start_within limits input) (record { error = e; left = left }) → at + left ≡ length input → StandsAt input e at
+shown_stands inputs limits input e at left meant greatest shown sum =
+    let s = shown a_value 0 unbounded meant (starts_facing limits input greatest) in
     let same : s.left ≡ left = omega (arith, s.place) in
     (left, sum, subst (StandsFrom unbounded a_value 0 input e) same s.stands)
