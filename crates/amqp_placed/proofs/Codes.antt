@@ -1,5 +1,5 @@
 -- A code that is refused, and data that is no value.
-use Rattle.std.proofs.Common.{◌≡◌, ℕ, zero, suc, inl, inr, Bool, true, false, cond, eqb, List, [], ◌∷◌, Option, Some, None, unwrap_or}
+use Rattle.std.proofs.Common.{◌≡◌, ℕ, zero, suc, ◌⊎◌, inl, inr, Bool, true, false, cond, eqb, List, [], ◌∷◌, Option, Some, None, unwrap_or}
 use Rattle.std.proofs.Common.{refl, sym, ap, ◌∙◌, subst}
 use Rattle.std.proofs.lemmas.Bool.{eqb-true, eq-eqb}
 use Rattle.std.specs.Int.{w8, w16, w32, w64, from_be_bytes, cast_signed}
@@ -29,17 +29,17 @@ known_case Q (fixed w v) e f h k = h tt
 known_case Q (variable w v) e f h k = h tt
 known_case Q (compound kind w) e f h k = h tt
 
--- A value begins by a code of another kind, or by one that is unknown.
-pub code_wrong : (c : ℕ) (around : Around) (P : Piece) (d : ℕ) (z : List ℕ) → Begins P → HasCode P z c
+-- A value begins by a code of another kind, or something by one that is unknown.
+pub code_wrong : (c : ℕ) (around : Around) (P : Piece) (d : ℕ) (z : List ℕ) → ((c ≡ 0) ⊎ IsKnown (format c) → Begins P × HasCode P z c)
     → ((c ≡ 0 → ⊥) → (IsKnown (format c) → ⊥) → HasUnknown P z c) → IsWrong (refusal_of c) around P d z
-code_wrong c around P d z begins h unknown_so =
+code_wrong c around P d z known_so unknown_so =
     let Q : Error → Type 0 = λ e. IsWrong e around P d z in
     code_test Q c 0x72 (eqb c 0x72) (FloatCode c) _ refl
     (λ is. (unknown_so (λ e. cc) (λ k. subst (λ x. IsKnown (format x)) is k), inl is))
     (λ n. code_test Q c 0x82 (eqb c 0x82) (FloatCode c) _ refl
     (λ is. (unknown_so (λ e. cc) (λ k. subst (λ x. IsKnown (format x)) is k), inr is))
-    (λ m. code_test Q c 0 (eqb c 0) (WrongType c) _ refl (λ is. (begins, h))
-    (λ some. known_case Q (format c) (WrongType c) (UnknownCode c) (λ known. (begins, h)) (unknown_so some))))
+    (λ m. code_test Q c 0 (eqb c 0) (WrongType c) _ refl (λ is. known_so (inl is))
+    (λ some. known_case Q (format c) (WrongType c) (UnknownCode c) (λ known. known_so (inr known)) (unknown_so some))))
 
 -- A code that begins no descriptor.
 pub other_kind_wrong : (c : ℕ) (around : Around) (d : ℕ) (z y : List ℕ) → z ≡ c ∷ y → (IsDescriptorCode c → ⊥)

@@ -25,11 +25,11 @@ use Rattle.amqp_decoder.specs.Described.{other_kind, IsDescriptorKind, Descripto
 use Rattle.amqp_decoder.specs.Described.{not_open, nameless, not_described, no_descriptor, no_member}
 use Rattle.amqp_decoder.specs.Places.{Located, At}
 use Rattle.amqp_decoder.proofs.Rooms.{room_in_described}
-use Rattle.amqp_placed.specs.Facing.{bytes_open, IsAround, IsUnderShared, IsNext, Inputs, AreMeant, Faces, Shows, IsShown}
-use Rattle.amqp_placed.proofs.Past.{Past, past_code, past_taken, past_both, past_bytes, past_length, past_around, past_unlimited, past_bound, past_meant}
+use Rattle.amqp_placed.specs.Facing.{bytes_open, IsAround, IsUnderShared, IsNext, Faces, Shows, IsShown}
+use Rattle.amqp_placed.proofs.Past.{Past, past_code, past_taken, past_both, past_bytes, past_length, past_around, past_unlimited, past_bound}
 use Rattle.amqp_placed.proofs.Codes.{other_kind_wrong}
 use Rattle.amqp_placed.proofs.Primitives.{data_wrong, no_value_wrong}
-use Rattle.amqp_placed.proofs.Here.{wrong_as, here_shows, lacks_wrong, next_left, begin_wrong, other_code_wrong}
+use Rattle.amqp_placed.proofs.Here.{wrong_as, deep_here, here_shows, lacks_wrong, next_left, begin_wrong, other_code_wrong}
 use Rattle.amqp_placed.proofs.Onward.{next_shows}
 
 own_marked : (P : Piece) (z y : List ℕ) → IsOwn P → z ≡ 0 ∷ y → IsMarked P z
@@ -53,7 +53,7 @@ described_wrong st e P d around h (other_code {c} {m} code some is) =
 described_wrong st e P d around h (too_deep {m} code deep is) =
     let k = marked st.top.shared P code.own (bytes_open st) (bytes_open m) (next_left st.top.items st.top.shared P code.item h.next)
         code.first (past_bytes (past_code st 0 m code)) in
-    let most : 128 ≤ d = elim h.deep [ inl flat ↦ absurd (k.1 flat) | inr most ↦ omega (arith, deep, most, h.nesting) ] in
+    let most : 128 ≤ d = omega (arith, deep, deep_here st P d around h code.item k.1, h.nesting) in
     wrong_as e Depth around P d (bytes_open st) (is ∙ ap depth_error h.nesting) (inl (inl (k.0, most)))
 
 -- Why no descriptor is read.
@@ -158,16 +158,16 @@ other_shows st m m' D f P d around h code took error is =
         (wrong_as f.error WrongDescriptor around P d (bytes_open st) error (subst (λ Q. IsDescriptor Q (bytes_open st)) (sym p) (λ none. cc)))
 
 -- A described value that isn't opened.
-pub unopened_shown : (inputs : Inputs) (st : State) (f : Located) → At open_left st f → IsShown inputs st f
-unopened_shown inputs st f (not_open fault, is) P d around meant h = here_shows st f P d around is (described_wrong st f.error P d around h fault)
-unopened_shown inputs st f (nameless {m} code own fault, is) P d around meant h = descriptor_shows st m f P d around h code own fault is
+pub unopened_shown : (st : State) (f : Located) → At open_left st f → IsShown st f
+unopened_shown st f (not_open fault, is) P d around h = here_shows st f P d around is (described_wrong st f.error P d around h fault)
+unopened_shown st f (nameless {m} code own fault, is) P d around h = descriptor_shows st m f P d around h code own fault is
 
 -- One that isn't opened as a member.
-pub no_member_shown : (inputs : Inputs) (members : List Member) (st : State) (f : Located) → At (one_of_left members) st f → IsShown inputs st f
-no_member_shown inputs members st f (not_described fault, is) P d around meant h =
+pub no_member_shown : (members : List Member) (st : State) (f : Located) → At (one_of_left members) st f → IsShown st f
+no_member_shown members st f (not_described fault, is) P d around h =
     here_shows st f P d around is (described_wrong st f.error P d around h fault)
-no_member_shown inputs members st f (no_descriptor {m} code own fault, is) P d around meant h = descriptor_shows st m f P d around h code own fault is
-no_member_shown inputs members st f (no_member {m} {m'} code took error, is) P d around meant h =
+no_member_shown members st f (no_descriptor {m} code own fault, is) P d around h = descriptor_shows st m f P d around h code own fault is
+no_member_shown members st f (no_member {m} {m'} code took error, is) P d around h =
     other_shows st m m' took.descriptor f P d around h code took.took error is
 
 -- What is described.
@@ -216,9 +216,9 @@ described_around m around h = go around h
     go cut_one (l, some, few) = (l, some, omega (arith, outer, few))
 
 -- What is shown of what a descriptor describes is shown of the described value.
-pub described_shown : (inputs : Inputs) (st inner : State) (D : Descriptor) (f : Located) → OpensDescribed st D inner → IsShown inputs inner f
-    → IsShown inputs st f
-described_shown inputs st inner D f o shown P d around meant h =
+pub described_shown : (st inner : State) (D : Descriptor) (f : Located) → OpensDescribed st D inner → IsShown inner f
+    → IsShown st f
+described_shown st inner D f o shown P d around h =
     let t = o.descriptor in
     let past0 = past_code st 0 o.coded o.begun in
     let past = past_both o.begun.own t.own st o.coded o.named past0 (past_taken o.coded t.own o.named t.took) in
@@ -241,9 +241,8 @@ described_shown inputs st inner D f o shown P d around meant h =
       next = subst (λ l. IsNext l inner.top.shared k.piece) (sym (ap (λ (x : State). x.top.items) o.opened))
           (subst (λ s. IsUnderShared s k.piece) (sym shared) k.shared);
       is_around = subst (IsAround around) (sym o.opened) (described_around o.named around (past_around past around h.is_around));
-      deep = inr (elim h.deep [ inl flat ↦ absurd (k.uneven flat) | inr deep ↦ omega (arith, deep, saved) ]);
+      deep = inr (inr (omega (arith, deep_here st P d around h o.begun.item k.uneven, saved)));
     } in
     next_shows st inner f around P k.piece d (suc d) (length (o.begun.own ++ t.own))
     (omega (arith, ap length whole, length-append (o.begun.own ++ t.own) (bytes_open inner)))
-    (omega (arith, past_length past, ap (λ (x : State). length x.rest) o.opened)) k.step (shown k.piece (suc d) around
-    (subst (λ (x : State). AreMeant inputs x.rest) (sym o.opened) (past_meant past inputs meant)) faces)
+    (omega (arith, past_length past, ap (λ (x : State). length x.rest) o.opened)) k.step (shown k.piece (suc d) around faces)

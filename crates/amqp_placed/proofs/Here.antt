@@ -10,12 +10,13 @@ use Rattle.amqp_wire.specs.declared.error.Error.TheVariants.{Cut, Size, Missing}
 use Rattle.amqp_wire.specs.Codes.{refusal_of}
 use Rattle.amqp_lengths.specs.Announced.{Wants}
 use Rattle.amqp_lengths.specs.Stands.{Piece, a_value, an_item, an_element, a_descriptor, an_array, a_code, an_end, Around, unbounded, whole_one}
-use Rattle.amqp_lengths.specs.Stands.{cut_one, outermost, IsOwn, IsUnder, IsEnd, no_step, Begins, IsWanting, HasCode, HasUnknown, IsAbsent, IsWrong}
+use Rattle.amqp_lengths.specs.Stands.{cut_one, outermost, IsOwn, IsUnder, IsEnd, no_step, Begins, IsWanting, HasCode, HasUnknown, IsAbsent, IsWrong, StandsFrom}
 use Rattle.amqp_decoder.specs.State.{State, Has, bound_of, announced, counted_in, after_look}
 use Rattle.amqp_decoder.specs.Steps.{Lacks, cut_open, past_limit, cut_inside, too_long}
+use Rattle.amqp_decoder.specs.Rooms.{HasFlatItems}
 use Rattle.amqp_decoder.specs.Reading.{IsFirst, ReadsCode, BeginFault, missing, no_code, one_too_many, after_peek, PeeksCode}
 use Rattle.amqp_decoder.specs.Places.{Located, Here}
-use Rattle.amqp_placed.specs.Facing.{up_to, bytes_open, IsAround, IsUnderShared, IsNext, Inputs, Faces, Shows, IsShown}
+use Rattle.amqp_placed.specs.Facing.{up_to, bytes_open, IsAround, IsUnderShared, IsNext, Faces, Shows, IsShown}
 use Rattle.amqp_placed.proofs.Past.{past_code, past_bytes}
 use Rattle.amqp_placed.proofs.Codes.{code_wrong}
 
@@ -31,22 +32,26 @@ outermost_none cut_one = refl
 pub wrong_as : (e x : Error) (around : Around) (P : Piece) (d : ℕ) (z : List ℕ) → e ≡ x → IsWrong x around P d z → IsWrong e around P d z
 wrong_as e x around P d z is h = subst (λ y. IsWrong y around P d z) (sym is) h
 
+-- it stands where this begins
+pub here_from : (around : Around) (P : Piece) (d : ℕ) (z : List ℕ) (e : Error) → IsWrong e around P d z → StandsFrom around P d z e (length z)
+here_from around P d z e h = record {
+  piece = P;
+  depth = d;
+  bytes = z;
+  inner = unbounded;
+  behind = 0;
+  leads = no_step P d z;
+  place = omega arith;
+  wrong = subst (λ x. IsWrong e x P d z) (sym (outermost_none around)) h;
+}
+
 -- it stands where the decoder does
 pub here_shows : (st : State) (f : Located) (P : Piece) (d : ℕ) (around : Around) → f.left ≡ length st.rest
     → IsWrong f.error around P d (bytes_open st) → Shows st f P d around
 here_shows st f P d around is h = record {
   left = length (bytes_open st);
   place = omega (arith, is);
-  stands = record {
-    piece = P;
-    depth = d;
-    bytes = bytes_open st;
-    inner = unbounded;
-    behind = 0;
-    leads = no_step P d (bytes_open st);
-    place = omega arith;
-    wrong = subst (λ x. IsWrong f.error x P d (bytes_open st)) (sym (outermost_none around)) h;
-  };
+  stands = here_from around P d (bytes_open st) f.error h;
 }
 
 -- Fewer bytes are there than are wanted.
@@ -179,14 +184,25 @@ begin_wrong st e P d around h (no_code item own lacks) =
     no_bytes (x ∷ l) few = absurd (omega (arith, few))
 begin_wrong st e P d around h (one_too_many {c} {m} code full is) = absurd (full (subst (λ o. Has o (counted_in st.top.shared c)) (sym h.uncounted) tt))
 
-pub begin_shown : (inputs : Inputs) (st : State) (f : Located) → Here BeginFault st f → IsShown inputs st f
-begin_shown inputs st f (fault, is) P d around meant h = here_shows st f P d around is (begin_wrong st f.error P d around h fault)
+pub begin_shown : (st : State) (f : Located) → Here BeginFault st f → IsShown st f
+begin_shown st f (fault, is) P d around h = here_shows st f P d around is (begin_wrong st f.error P d around h fault)
+
+-- A value that can hold others isn't at a greater depth than it may be.
+pub deep_here : (st : State) (P : Piece) (d : ℕ) (around : Around) → Faces st P d around → Has st.top.items 1 → (HasFlatItems st.top.shared → ⊥)
+    → length st.saved ≤ d
+deep_here st P d around h item uneven = go h.deep
+  where
+    go : HasFlatItems st.top.shared ⊎ ((st.top.items ≡ Some 0) ⊎ (length st.saved ≤ d)) → length st.saved ≤ d
+    go (inl flat) = absurd (uneven flat)
+    go (inr (inl none)) = absurd (let x : Has (Some 0) 1 = subst (λ o. Has o 1) none item in omega (arith, x))
+    go (inr (inr deep)) = deep
 
 -- A code of another kind stands there.
 pub other_code_wrong : (st : State) (c : ℕ) (m : State) (P : Piece) (d : ℕ) (around : Around) → Faces st P d around → ReadsCode st c m
     → IsWrong (refusal_of c) around P d (bytes_open st)
 other_code_wrong st c m P d around h code =
-    let k = code_taken st c m P code h.next in code_wrong c around P d (bytes_open st) k.begins k.has k.unknown_so
+    let k = code_taken st c m P code h.next in
+    code_wrong c around P d (bytes_open st) (λ known. (k.begins, k.has)) k.unknown_so
 
 -- What was looked at isn't taken.
 looked_around : (n : ℕ) (st : State) (around : Around) → IsAround around st → IsAround around (after_look n st)
@@ -194,9 +210,9 @@ looked_around n st unbounded h = h
 looked_around n st whole_one h = h
 looked_around n st cut_one h = h
 
-looked_shown : (inputs : Inputs) (n : ℕ) (st : State) (f : Located) → IsShown inputs (after_look n st) f → IsShown inputs st f
-looked_shown inputs n st f shown P d around meant h =
-    let s = shown P d around meant (record {
+looked_shown : (n : ℕ) (st : State) (f : Located) → IsShown (after_look n st) f → IsShown st f
+looked_shown n st f shown P d around h =
+    let s = shown P d around (record {
       nesting = h.nesting;
       uncounted = h.uncounted;
       unlimited = h.unlimited;
@@ -207,10 +223,10 @@ looked_shown inputs n st f shown P d around meant h =
     }) in
     record { left = s.left; place = s.place; stands = s.stands }
 
-pub peeked_shown : (inputs : Inputs) (st : State) (c : ℕ) (mid : State) (f : Located) → PeeksCode st c mid → IsShown inputs mid f
-    → IsShown inputs st f
-peeked_shown inputs st c mid f p shown = by_shared st.top.shared (subst (λ x. IsShown inputs x f) p.kept shown)
+pub peeked_shown : (st : State) (c : ℕ) (mid : State) (f : Located) → PeeksCode st c mid → IsShown mid f
+    → IsShown st f
+peeked_shown st c mid f p shown = by_shared st.top.shared (subst (λ x. IsShown x f) p.kept shown)
   where
-    by_shared : (o : Option (List Descriptor × ℕ)) → IsShown inputs (after_peek o st) f → IsShown inputs st f
-    by_shared None s = looked_shown inputs 1 st f s
+    by_shared : (o : Option (List Descriptor × ℕ)) → IsShown (after_peek o st) f → IsShown st f
+    by_shared None s = looked_shown 1 st f s
     by_shared (Some x) s = s

@@ -3,9 +3,8 @@ use Rattle.std.proofs.Common.{◌≡◌, ℕ, zero, suc, ◌+◌, ◌-◌, ◌<�
 use Rattle.std.proofs.Common.{length, take, drop, refl, sym, ap, ◌∙◌, subst, arith}
 use Rattle.std.proofs.lemmas.List.{length-append, length-take, take-take}
 use Rattle.std.specs.Int.{bytes_high_first}
-use Rattle.amqp_model.specs.Term.{Container, list, map, array, Term}
+use Rattle.amqp_model.specs.Term.{Container, list, map, array, Term, Descriptor}
 use Rattle.amqp_model.specs.Constructors.{compound, format}
-use Rattle.amqp_model.specs.Spelling.{IsSpelling}
 use Rattle.amqp_lengths.specs.Fronts.{Behind}
 use Rattle.amqp_lengths.specs.Lengths as lengths
 use Rattle.amqp_lengths.specs.Stands.{Piece, an_item, an_end, Around, unbounded, whole_one, cut_one, outermost, AnyTerm, Step, to_item, to_end}
@@ -17,41 +16,45 @@ use Rattle.amqp_decoder.specs.Places.{Located}
 use Rattle.amqp_decoder.proofs.Steps.{has_none, lower_none}
 use Rattle.amqp_decoder.proofs.ReadPrimitives.{has_add, lower-lower}
 use Rattle.amqp_decoder.proofs.Rooms.{room_row, room_inside}
-use Rattle.amqp_placed.specs.Facing.{up_to, bytes_open, IsAround, IsNext, Inputs, AreMeant, Faces, Shows, IsShown, IsAt}
+use Rattle.amqp_placed.specs.Facing.{up_to, bytes_open, IsAround, IsNext, Faces, Shows, IsShown, IsAt}
 use Rattle.amqp_placed.proofs.Past.{Past, past_code, past_taken, past_value, past_none, past_both, has_bound, past_bytes, lowered_bound}
-use Rattle.amqp_placed.proofs.Past.{lowered_sum, past_length, past_around, past_bound, past_unlimited, past_meant}
+use Rattle.amqp_placed.proofs.Past.{lowered_sum, past_length, past_around, past_bound, past_unlimited}
 use Rattle.amqp_placed.proofs.Here.{none_some, code_taken}
 use Rattle.amqp_placed.proofs.Onward.{onward_shows}
 use Rattle.amqp_placed.proofs.Contents.{Content, content_there}
 use Rattle.amqp_placed.proofs.Opening.{Entering, entering, compound_some, head_is}
 
--- terms that were taken in turn, each with a constructor of its own
-pub record InRow (ts : List Term) (b : List ℕ) (st mid : State) : Type 0 where
+-- terms that were taken in turn, under what they share, each as bytes of which Q holds
+pub record InRow (Q : List ℕ → Type 0) (o : Option (List Descriptor × ℕ)) (ts : List Term) (b : List ℕ) (st mid : State) : Type 0 where
   pub past : Past b st mid
-  pub spelled : lengths.Row AnyTerm (length ts) b
+  pub spelled : lengths.Row Q (length ts) b
   pub items : mid.top.items ≡ lower st.top.items (length ts)
-  pub shared : mid.top.shared ≡ None
+  pub shared : mid.top.shared ≡ o
 
-pub in_row : (ts : List Term) (b : List ℕ) (st mid : State) → st.top.shared ≡ None → Row st ts b mid → InRow ts b st mid
-in_row [] b st mid own (none, is) = record {
+pub in_row_under : (Q : List ℕ → Type 0) (o : Option (List Descriptor × ℕ)) → ((s : List ℕ) (t : Term) → SpellsAs (standing o s) t → Q s)
+    → (ts : List Term) (b : List ℕ) (st mid : State) → st.top.shared ≡ o → Row st ts b mid → InRow Q o ts b st mid
+in_row_under Q o holds [] b st mid own (none, is) = record {
   past = subst (λ x. Past x st mid) (sym none) (subst (Past [] st) (sym is) (past_none st));
   spelled = none;
   items = ap (λ (x : State). x.top.items) is ∙ sym (lower_none st.top.items);
   shared = ap (λ (x : State). x.top.shared) is ∙ own;
 }
-in_row (t ∷ ts) b st mid own (s, r, e, h, row) =
+in_row_under Q o holds (t ∷ ts) b st mid own (s, r, e, h, row) =
     let next = after_value (length s) (weight_at st t) st in
-    let i = in_row ts r next mid own row in
+    let i = in_row_under Q o holds ts r next mid own row in
     let one : 1 + length ts ≡ suc (length ts) = omega arith in
-    let spelled : IsSpelling s t = subst (λ o. SpellsAs (standing o s) t) own h.spelled in
     record {
       past = subst (λ x. Past x st mid) (sym e) (past_both s r st next mid (past_value st s t h) i.past);
-      spelled = (s, r, e, (t, spelled), i.spelled);
+      spelled = (s, r, e, holds s t (subst (λ x. SpellsAs (standing x s) t) own h.spelled), i.spelled);
       items = i.items ∙ lower-lower st.top.items 1 (length ts) ∙ ap (lower st.top.items) one;
       shared = i.shared;
     }
 
-take_up_to : (o : Option ℕ) (n : ℕ) (r : List ℕ) → Has o n → take n (up_to o r) ≡ take n r
+-- terms with constructors of their own
+pub in_row : (ts : List Term) (b : List ℕ) (st mid : State) → st.top.shared ≡ None → Row st ts b mid → InRow AnyTerm None ts b st mid
+in_row = in_row_under AnyTerm None (λ s t h. (t, h))
+
+pub take_up_to : (o : Option ℕ) (n : ℕ) (r : List ℕ) → Has o n → take n (up_to o r) ≡ take n r
 take_up_to None n r h = refl
 take_up_to (Some l) n r h = take-take n l r h
 
@@ -123,11 +126,11 @@ within kind other n k d few = go (n - k) refl
     }
 
 -- What is shown behind some items of a container is shown of the container.
-pub inside_shows : (inputs : Inputs) (kind : Container) → (kind ≡ array → ⊥) → (st first mid : State) (n : ℕ) (ts : List Term) (b : List ℕ) (f : Located)
+pub inside_shows : (kind : Container) → (kind ≡ array → ⊥) → (st first mid : State) (n : ℕ) (ts : List Term) (b : List ℕ) (f : Located)
     → Opens kind st n first → Row first ts b mid → length ts ≤ n
-    → ((P : Piece) (d : ℕ) (around : Around) → IsAt kind n (length ts) P → AreMeant inputs mid.rest → Faces mid P d around
-    → Shows mid f P d around) → IsShown inputs st f
-inside_shows inputs kind other st first mid n ts b f o row few shown P d around meant h =
+    → ((P : Piece) (d : ℕ) (around : Around) → IsAt kind n (length ts) P → Faces mid P d around
+    → Shows mid f P d around) → IsShown st f
+inside_shows kind other st first mid n ts b f o row few shown P d around h =
     let x = entering kind o.width o.code P d around st o.mid h o.begun o.announced in
     let e = o.data_ in
     let head = e.header in
@@ -153,8 +156,6 @@ inside_shows inputs kind other st first mid n ts b f o row few shown P d around 
         ap length r.past.saved ∙ ap (λ (x : State). length x.saved) e.entered ∙ ap suc (ap length past1.saved ∙ ap length past0.saved) in
     let left : mid.top.items ≡ Some (n - length ts) =
         r.items ∙ ap (λ x. lower x (length ts)) (ap (λ (x : State). x.top.items) e.entered ∙ items_in kind n) in
-    let there : AreMeant inputs mid.rest = past_meant r.past inputs (subst (λ (x : State). AreMeant inputs x.rest) (sym e.entered)
-        (past_meant past1 inputs (past_meant past0 inputs meant))) in
     let w = within kind other n (length ts) d few in
     let faces : Faces mid w.piece (suc d) (outermost around k.inner) = record {
       nesting = r.past.nesting ∙ ap (λ (x : State). x.nesting) e.entered ∙ past1.nesting ∙ past0.nesting ∙ h.nesting;
@@ -163,7 +164,7 @@ inside_shows inputs kind other st first mid n ts b f o row few shown P d around 
       room = room_row ts first b mid row (room_inside kind st n first o);
       next = subst (λ o. IsNext mid.top.items o w.piece) (sym r.shared) (subst (λ l. IsNext l None w.piece) (sym left) w.next);
       is_around = past_around r.past (outermost around k.inner) first_around;
-      deep = inr (omega (arith, x.deep, saved, ap length past0.saved));
+      deep = inr (inr (omega (arith, x.deep, saved, ap length past0.saved)));
     } in
     let step = w.step P (bytes_open st) (bytes_open o.mid) items (bytes_open mid) o.code o.width k.behind k.inner
         (x.coded.under (compound_some o.code kind o.width o.announced)) o.announced k.contains behind in
@@ -182,9 +183,9 @@ inside_shows inputs kind other st first mid n ts b f o row few shown P d around 
       length-append (bytes_high_first o.width head.size ++ bytes_high_first o.width n) (bytes_open m),
       length-append b (bytes_open mid),
     ) in
-    onward_shows st mid f around k.inner P w.piece d (suc d) k.behind sum step (shown w.piece (suc d) (outermost around k.inner) w.is there faces)
+    onward_shows st mid f around k.inner P w.piece d (suc d) k.behind sum step (shown w.piece (suc d) (outermost around k.inner) w.is faces)
 
-pub inside_shown : (inputs : Inputs) (kind : Container) → (kind ≡ array → ⊥) → (st first mid : State) (n : ℕ) (ts : List Term) (b : List ℕ) (f : Located)
-    → Opens kind st n first → Row first ts b mid → length ts ≤ n → IsShown inputs mid f → IsShown inputs st f
-inside_shown inputs kind other st first mid n ts b f o row few shown =
-    inside_shows inputs kind other st first mid n ts b f o row few (λ P d around at meant faces. shown P d around meant faces)
+pub inside_shown : (kind : Container) → (kind ≡ array → ⊥) → (st first mid : State) (n : ℕ) (ts : List Term) (b : List ℕ) (f : Located)
+    → Opens kind st n first → Row first ts b mid → length ts ≤ n → IsShown mid f → IsShown st f
+inside_shown kind other st first mid n ts b f o row few shown =
+    inside_shows kind other st first mid n ts b f o row few (λ P d around at faces. shown P d around faces)

@@ -15,3 +15,5 @@ mod Composites
 mod Items
 mod Sums
 mod Described
+mod Constructors
+mod Arrays

@@ -9,7 +9,8 @@ use Rattle.amqp_wire.specs.declared.limits.Limits.{Limits}
 use Rattle.amqp_wire.specs.Limits.{limit_of}
 use Rattle.amqp_decoder.proofs.Rooms.{room_at_top}
 use Rattle.amqp_codec.specs.Reading.{start_within, IsGreatest}
-use Rattle.amqp_placed.specs.Facing.{bytes_open, Inputs, AreMeant, Faces, Shows, IsShown}
+use Rattle.amqp_placed.proofs.Here.{outermost_none}
+use Rattle.amqp_placed.specs.Facing.{bytes_open, Faces, Shows, IsShown}
 
 outermost_of : (a b c : Around) → outermost (outermost a b) c ≡ outermost a (outermost b c)
 outermost_of unbounded b c = refl
@@ -40,16 +41,18 @@ onward_shows st m f around entered P Q d k behind sum step h = record {
 }
 
 -- where no container is entered
+pub next_from : (around : Around) (P Q : Piece) (d k : ℕ) (z y : List ℕ) (e : Error) (left : ℕ) → Step P d z Q k y unbounded 0
+    → StandsFrom around Q k y e left → StandsFrom around P d z e left
+next_from around P Q d k z y e left step h =
+    let same : left + 0 ≡ left = omega arith in
+    subst (StandsFrom around P d z e) same
+    (onward around unbounded P Q d k z y e left 0 step (subst (λ x. StandsFrom x Q k y e left) (sym (outermost_none around)) h))
+
 pub next_shows : (st m : State) (f : Located) (around : Around) (P Q : Piece) (d k own : ℕ) → length (bytes_open st) ≡ own + length (bytes_open m)
     → length st.rest ≡ own + length m.rest → Step P d (bytes_open st) Q k (bytes_open m) unbounded 0 → Shows m f Q k around → Shows st f P d around
 next_shows st m f around P Q d k own bytes rest step h =
     onward_shows st m f around unbounded P Q d k 0 (omega (arith, bytes, rest)) step
-    (subst (λ x. Shows m f Q k x) (sym (none_entered around)) h)
-  where
-    none_entered : (a : Around) → outermost a unbounded ≡ a
-    none_entered unbounded = refl
-    none_entered whole_one = refl
-    none_entered cut_one = refl
+    (subst (λ x. Shows m f Q k x) (sym (outermost_none around)) h)
 
 -- A fault at the start of an input, within no limits.
 pub starts_facing : (limits : Limits) (input : List ℕ) → IsGreatest limits → Faces (start_within limits input) a_value 0 unbounded
@@ -60,12 +63,12 @@ starts_facing limits input (deep, bytes, items) = record {
   room = room_at_top (start_within limits input) refl;
   next = tt;
   is_around = (refl, refl);
-  deep = inr (omega arith);
+  deep = inr (inr (omega arith));
 }
 
-pub shown_stands : (inputs : Inputs) (limits : Limits) (input : List ℕ) (e : Error) (at left : ℕ) → AreMeant inputs input → IsGreatest limits
-    → IsShown inputs (start_within limits input) (record { error = e; left = left }) → at + left ≡ length input → StandsAt input e at
-shown_stands inputs limits input e at left meant greatest shown sum =
-    let s = shown a_value 0 unbounded meant (starts_facing limits input greatest) in
+pub shown_stands : (limits : Limits) (input : List ℕ) (e : Error) (at left : ℕ) → IsGreatest limits
+    → IsShown (start_within limits input) (record { error = e; left = left }) → at + left ≡ length input → StandsAt input e at
+shown_stands limits input e at left greatest shown sum =
+    let s = shown a_value 0 unbounded (starts_facing limits input greatest) in
     let same : s.left ≡ left = omega (arith, s.place) in
     (left, sum, subst (StandsFrom unbounded a_value 0 input e) same s.stands)

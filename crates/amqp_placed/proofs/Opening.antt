@@ -21,9 +21,9 @@ use Rattle.amqp_decoder.specs.Reading.{IsFirst, ReadsCode}
 use Rattle.amqp_decoder.specs.Containers.{is_list, IsCount, Counts, IsPossible, ReadsHeader, HeaderFault, no_size, impossible, no_count}
 use Rattle.amqp_decoder.specs.Containers.{no_content, EnterFault, no_header, odd_count, no_room, too_deep, OpenFault, not_begun, wrong_code, no_data}
 use Rattle.amqp_decoder.specs.Places.{Located, Here}
-use Rattle.amqp_placed.specs.Facing.{up_to, bytes_open, IsAround, Inputs, Faces, IsShown}
+use Rattle.amqp_placed.specs.Facing.{up_to, bytes_open, IsAround, Faces, IsShown}
 use Rattle.amqp_placed.proofs.Past.{past_code, past_taken, past_bytes, past_around, past_unlimited}
-use Rattle.amqp_placed.proofs.Here.{none_some, wrong_as, here_shows, lacks_wrong, Coded, code_taken, begin_wrong, other_code_wrong}
+use Rattle.amqp_placed.proofs.Here.{none_some, deep_here, wrong_as, here_shows, lacks_wrong, Coded, code_taken, begin_wrong, other_code_wrong}
 use Rattle.amqp_placed.proofs.Contents.{fewer, listed, least_content, own_content, content_there}
 
 -- A size isn't what is there.
@@ -95,10 +95,7 @@ entering kind w c P d around st m h code is =
       is_around = past_around past around h.is_around;
       unlimited = past_unlimited past h.unlimited;
       nesting = past.nesting ∙ h.nesting;
-      deep = elim h.deep [
-        | inl flat ↦ absurd (not_flat st.top.shared c w code.own kind code.first is flat)
-        | inr deep ↦ omega (arith, deep, ap length past.saved)
-      ];
+      deep = omega (arith, deep_here st P d around h code.item (not_flat st.top.shared c w code.own kind code.first is), ap length past.saved);
     }
 
 wide_enough : (w n : ℕ) → 0 < n → n < 256 ^ w → 0 < w
@@ -218,6 +215,6 @@ open_wrong kind other st e P d around h (no_data {c} {width} {m} code is fault) 
     enter_wrong (entering kind width c P d around st m h code is) e other fault
 
 -- A list or a map that isn't opened.
-pub open_shown : (inputs : Inputs) (kind : Container) → (kind ≡ array → ⊥) → (st : State) (f : Located) → Here (OpenFault kind) st f
-    → IsShown inputs st f
-open_shown inputs kind other st f (fault, is) P d around meant h = here_shows st f P d around is (open_wrong kind other st f.error P d around h fault)
+pub open_shown : (kind : Container) → (kind ≡ array → ⊥) → (st : State) (f : Located) → Here (OpenFault kind) st f
+    → IsShown st f
+open_shown kind other st f (fault, is) P d around h = here_shows st f P d around is (open_wrong kind other st f.error P d around h fault)

@@ -10,7 +10,7 @@ use Rattle.amqp_decoder.specs.Reading.{ReadsCode}
 use Rattle.amqp_decoder.specs.Primitives.{Stands}
 use Rattle.amqp_decoder.proofs.Steps.{has_none, lower_none}
 use Rattle.amqp_decoder.proofs.ReadPrimitives.{has_add, lower-lower}
-use Rattle.amqp_placed.specs.Facing.{up_to, bytes_open, IsAround, Inputs, any_input, few_marks, AreMeant}
+use Rattle.amqp_placed.specs.Facing.{up_to, bytes_open, IsAround}
 
 pub record Past (own : List ℕ) (st m : State) : Type 0 where
   pub rest : st.rest ≡ own ++ m.rest
@@ -111,16 +111,7 @@ pub lowered_sum : (o q : Option ℕ) (n l others : ℕ) → o ≡ Some l → Has
 lowered_sum None q n l others none h is = absurd (cc)
 lowered_sum (Some k) q n l others some h is = omega (arith, h, ap (λ x. unwrap_or x 0) is)
 
--- what is meant of an input is meant of its end
-pub meant_behind : (inputs : Inputs) (own r : List ℕ) → AreMeant inputs (own ++ r) → AreMeant inputs r
-meant_behind any_input own r h = h
-meant_behind few_marks own r h = λ before marks after ds is. h (own ++ before) marks after ds
-    (ap (λ l. own ++ l) is ∙ sym (append_assoc own before (marks ++ after)))
-
 module _ {own : List ℕ} {st m : State} (h : Past own st m) where
-  pub past_meant : (inputs : Inputs) → AreMeant inputs st.rest → AreMeant inputs m.rest
-  past_meant inputs meant = meant_behind inputs own m.rest (subst (AreMeant inputs) h.rest meant)
-
   pub past_length : length st.rest ≡ length own + length m.rest
   past_length = ap length h.rest ∙ length-append own m.rest
 

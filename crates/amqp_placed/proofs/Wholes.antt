@@ -16,7 +16,7 @@ use Rattle.amqp_placed.specs.Facing.{bytes_open, IsUnderShared}
 use Rattle.amqp_placed.proofs.Past.{past_code, past_taken, past_value, past_bytes, past_length}
 
 -- the data under descriptors is that of what they describe
-bare_data : (t : Term) (ds : List Descriptor) (c : ℕ) (b : List ℕ) → IsDataOf t ds c b → AnyData c b
+pub bare_data : (t : Term) (ds : List Descriptor) (c : ℕ) (b : List ℕ) → IsDataOf t ds c b → AnyData c b
 bare_data (leaf p) [] c b h = (leaf p, h)
 bare_data (container list ts) [] c b h = (container list ts, h)
 bare_data (container map ts) [] c b h = (container map ts, h)

@@ -1,10 +1,9 @@
 -- Where a decoder stands in its input, and that a fault of what it reads there is one over bytes alone.
-use Rattle.std.specs.Prelude.{◌≡◌, ℕ, zero, ◌+◌, ◌<◌, ◌≤◌, ◌⊎◌, List, ◌++◌, length, take, Option, Some, None}
+use Rattle.std.specs.Prelude.{◌≡◌, ℕ, zero, ◌+◌, ◌<◌, ◌≤◌, ◌⊎◌, List, length, take, Option, Some, None}
 use Rattle.amqp_model.specs.Term.{Container, Descriptor}
 use Rattle.amqp_model.specs.Constructors.{format}
 use Rattle.amqp_model.specs.Spelling.{IsKnown}
 use Rattle.amqp_wire.specs.declared.error.Error.{Error}
-use Rattle.amqp_lengths.specs.Lengths.{Marks}
 use Rattle.amqp_lengths.specs.Stands.{Piece, an_item, an_element, an_end, Around, unbounded, whole_one, cut_one, IsOwn, IsEnd, StandsFrom}
 use Rattle.amqp_decoder.specs.State.{State, bound_of, bytes_left, announced}
 use Rattle.amqp_decoder.specs.Rooms.{HasFlatItems, HasRoom}
@@ -35,15 +34,6 @@ abbrev pub IsNext : Option ℕ → Option (List Descriptor × ℕ) → Piece →
 IsNext (Some zero) shared P = IsEnd P
 IsNext left shared P = IsUnderShared shared P
 
--- Which inputs are meant: any, or those in which no 128 descriptors stand one after another.
-pub data Inputs : Type 0 where
-  any_input : Inputs
-  few_marks : Inputs
-
-abbrev pub AreMeant : Inputs → List ℕ → Type 0
-AreMeant any_input r = Unit {0}
-AreMeant few_marks r = (before own after : List ℕ) (ds : List Descriptor) → r ≡ before ++ (own ++ after) → Marks ds own → length ds < 128
-
 -- A decoder within no limits of the caller stands where this has to begin, in so many values that count in nesting.
 pub record Faces (st : State) (P : Piece) (d : ℕ) (around : Around) : Type 0 where
   pub nesting : st.nesting ≡ 128
@@ -52,7 +42,7 @@ pub record Faces (st : State) (P : Piece) (d : ℕ) (around : Around) : Type 0 w
   pub room : HasRoom st
   pub next : IsNext st.top.items st.top.shared P
   pub is_around : IsAround around st
-  pub deep : HasFlatItems st.top.shared ⊎ (length st.saved ≤ d)
+  pub deep : HasFlatItems st.top.shared ⊎ ((st.top.items ≡ Some 0) ⊎ (length st.saved ≤ d))
 
 -- What stands at the place of the fault is at fault.
 pub record Shows (st : State) (f : Located) (P : Piece) (d : ℕ) (around : Around) : Type 0 where
@@ -61,12 +51,12 @@ pub record Shows (st : State) (f : Located) (P : Piece) (d : ℕ) (around : Arou
   pub stands : StandsFrom around P d (bytes_open st) f.error left
 
 -- Wherever a decoder stands so, the fault is shown by bytes alone.
-abbrev pub IsShown : Inputs → State → Located → Type 0
-IsShown inputs st f = (P : Piece) (d : ℕ) (around : Around) → AreMeant inputs st.rest → Faces st P d around → Shows st f P d around
+abbrev pub IsShown : State → Located → Type 0
+IsShown st f = (P : Piece) (d : ℕ) (around : Around) → Faces st P d around → Shows st f P d around
 
 -- Each fault by this error is.
-abbrev pub AreShown : Inputs → Error → (State → Located → Type 0) → Type 0
-AreShown inputs e fault = (st : State) (f : Located) → f.error ≡ e → fault st f → IsShown inputs st f
+abbrev pub AreShown : Error → (State → Located → Type 0) → Type 0
+AreShown e fault = (st : State) (f : Located) → f.error ≡ e → fault st f → IsShown st f
 
 -- The piece is the item of a number of a list or map of n items, from 0 on, or its end.
 abbrev pub IsAt : Container → ℕ → ℕ → Piece → Type 0

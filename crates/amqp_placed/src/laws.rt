@@ -19,11 +19,12 @@ ghost use Rattle.amqp_codec.specs.FieldReading.{FieldsFault};
 ghost use Rattle.amqp_codec.specs.EitherMeaning.{EitherFault};
 ghost use Rattle.amqp_sums.specs.Restricted.{IsUnknownError, RestrictedFault};
 ghost use Rattle.amqp_sums.specs.Choices.{sum_of};
-ghost use Rattle.amqp_placed.specs.Shown.{FieldsShown, ChoicesShown};
-ghost use Rattle.amqp_placed.specs.Facing.{Inputs, AreMeant, IsShown, AreShown};
+ghost use Rattle.amqp_placed.specs.Shown.{FieldsShown, ChoicesShown, IsOfNoConstructor};
+ghost use Rattle.amqp_placed.specs.Facing.{IsShown, AreShown};
 
 use amqp_codec::kernel::{Composite, FieldList};
 use amqp_codec::{Deserialize, DeserializeTerm, MapKey, Symbol};
+use amqp_containers::Array;
 use amqp_described::Described;
 use amqp_maps::OrderedMap;
 use amqp_primitives::{Binary, Dec32, Dec64, Dec128, Timestamp, Uuid};
@@ -31,96 +32,102 @@ use amqp_sums::Sum;
 use std::collections::BTreeMap;
 use std::rc::Rc;
 
-/// What stands at the place of an error is at fault, if the type's faults by that error are shown by bytes: in an input of those meant that
-/// begins with no value of the type, within no limits of the caller. `from_slice_located` returns such a place (`place`).
+/// What stands at the place of an error is at fault, if the type's faults by that error are shown by bytes: in an input that begins with no
+/// value of the type, within no limits of the caller. `from_slice_located` returns such a place (`place`).
 pub fn shown_faults_stand<T: DeserializeTerm>()
-    ensures { (inputs : Inputs) (e : Error) → AreShown inputs e T.term.faults.fault → (limits : Limits) (input : List ℕ) (at : ℕ)
-        → IsGreatest limits → AreMeant inputs input → IsFaultyAt limits ⟦<T as Deserialize>⟧.reading input e at → StandsAt input e at }
+    ensures { (e : Error) → AreShown e T.term.faults.fault → (limits : Limits) (input : List ℕ) (at : ℕ)
+        → IsGreatest limits → IsFaultyAt limits ⟦<T as Deserialize>⟧.reading input e at → StandsAt input e at }
 {}
 
 /// Each fault of a primitive is shown by bytes (Part 1, section 1.6).
 pub fn primitives()
-    ensures kind { (inputs : Inputs) (e : Error) (k : ℕ) → AreShown inputs e (Here (PrimitiveFault k)) }
-    ensures null { (inputs : Inputs) (e : Error) → AreShown inputs e ⟦<() as DeserializeTerm>⟧.term.faults.fault }
-    ensures boolean { (inputs : Inputs) (e : Error) → AreShown inputs e ⟦<bool as DeserializeTerm>⟧.term.faults.fault }
-    ensures ubyte { (inputs : Inputs) (e : Error) → AreShown inputs e ⟦<u8 as DeserializeTerm>⟧.term.faults.fault }
-    ensures ushort { (inputs : Inputs) (e : Error) → AreShown inputs e ⟦<u16 as DeserializeTerm>⟧.term.faults.fault }
-    ensures uint { (inputs : Inputs) (e : Error) → AreShown inputs e ⟦<u32 as DeserializeTerm>⟧.term.faults.fault }
-    ensures ulong { (inputs : Inputs) (e : Error) → AreShown inputs e ⟦<u64 as DeserializeTerm>⟧.term.faults.fault }
-    ensures byte { (inputs : Inputs) (e : Error) → AreShown inputs e ⟦<i8 as DeserializeTerm>⟧.term.faults.fault }
-    ensures short { (inputs : Inputs) (e : Error) → AreShown inputs e ⟦<i16 as DeserializeTerm>⟧.term.faults.fault }
-    ensures int { (inputs : Inputs) (e : Error) → AreShown inputs e ⟦<i32 as DeserializeTerm>⟧.term.faults.fault }
-    ensures long { (inputs : Inputs) (e : Error) → AreShown inputs e ⟦<i64 as DeserializeTerm>⟧.term.faults.fault }
-    ensures character { (inputs : Inputs) (e : Error) → AreShown inputs e ⟦<char as DeserializeTerm>⟧.term.faults.fault }
-    ensures string { (inputs : Inputs) (e : Error) → AreShown inputs e ⟦<String as DeserializeTerm>⟧.term.faults.fault }
-    ensures symbol { (inputs : Inputs) (e : Error) → AreShown inputs e ⟦<Symbol as DeserializeTerm>⟧.term.faults.fault }
-    ensures decimal32 { (inputs : Inputs) (e : Error) → AreShown inputs e ⟦<Dec32 as DeserializeTerm>⟧.term.faults.fault }
-    ensures decimal64 { (inputs : Inputs) (e : Error) → AreShown inputs e ⟦<Dec64 as DeserializeTerm>⟧.term.faults.fault }
-    ensures decimal128 { (inputs : Inputs) (e : Error) → AreShown inputs e ⟦<Dec128 as DeserializeTerm>⟧.term.faults.fault }
-    ensures timestamp { (inputs : Inputs) (e : Error) → AreShown inputs e ⟦<Timestamp as DeserializeTerm>⟧.term.faults.fault }
-    ensures uuid { (inputs : Inputs) (e : Error) → AreShown inputs e ⟦<Uuid as DeserializeTerm>⟧.term.faults.fault }
-    ensures binary { (inputs : Inputs) (e : Error) → AreShown inputs e ⟦<Binary as DeserializeTerm>⟧.term.faults.fault }
+    ensures kind { (e : Error) (k : ℕ) → AreShown e (Here (PrimitiveFault k)) }
+    ensures null { (e : Error) → AreShown e ⟦<() as DeserializeTerm>⟧.term.faults.fault }
+    ensures boolean { (e : Error) → AreShown e ⟦<bool as DeserializeTerm>⟧.term.faults.fault }
+    ensures ubyte { (e : Error) → AreShown e ⟦<u8 as DeserializeTerm>⟧.term.faults.fault }
+    ensures ushort { (e : Error) → AreShown e ⟦<u16 as DeserializeTerm>⟧.term.faults.fault }
+    ensures uint { (e : Error) → AreShown e ⟦<u32 as DeserializeTerm>⟧.term.faults.fault }
+    ensures ulong { (e : Error) → AreShown e ⟦<u64 as DeserializeTerm>⟧.term.faults.fault }
+    ensures byte { (e : Error) → AreShown e ⟦<i8 as DeserializeTerm>⟧.term.faults.fault }
+    ensures short { (e : Error) → AreShown e ⟦<i16 as DeserializeTerm>⟧.term.faults.fault }
+    ensures int { (e : Error) → AreShown e ⟦<i32 as DeserializeTerm>⟧.term.faults.fault }
+    ensures long { (e : Error) → AreShown e ⟦<i64 as DeserializeTerm>⟧.term.faults.fault }
+    ensures character { (e : Error) → AreShown e ⟦<char as DeserializeTerm>⟧.term.faults.fault }
+    ensures string { (e : Error) → AreShown e ⟦<String as DeserializeTerm>⟧.term.faults.fault }
+    ensures symbol { (e : Error) → AreShown e ⟦<Symbol as DeserializeTerm>⟧.term.faults.fault }
+    ensures decimal32 { (e : Error) → AreShown e ⟦<Dec32 as DeserializeTerm>⟧.term.faults.fault }
+    ensures decimal64 { (e : Error) → AreShown e ⟦<Dec64 as DeserializeTerm>⟧.term.faults.fault }
+    ensures decimal128 { (e : Error) → AreShown e ⟦<Dec128 as DeserializeTerm>⟧.term.faults.fault }
+    ensures timestamp { (e : Error) → AreShown e ⟦<Timestamp as DeserializeTerm>⟧.term.faults.fault }
+    ensures uuid { (e : Error) → AreShown e ⟦<Uuid as DeserializeTerm>⟧.term.faults.fault }
+    ensures binary { (e : Error) → AreShown e ⟦<Binary as DeserializeTerm>⟧.term.faults.fault }
 {}
 
 /// Each fault of a restricted type is shown by bytes: a number or a text of no value is a whole value.
 pub fn restricted_types<A, V>()
-    ensures { (inputs : Inputs) (e unknown : Error) (base : Base A) (table : V → A) → IsUnknownError unknown → AreShown inputs e (RestrictedFault base unknown table) }
+    ensures { (e unknown : Error) (base : Base A) (table : V → A) → IsUnknownError unknown → AreShown e (RestrictedFault base unknown table) }
 {}
 
 /// The faults of an optional, boxed or counted value by an error are shown by bytes, if those of the value are; so are those of a value
 /// behind a descriptor of its own (Part 1, section 1.2), and those of a list of values (section 1.6.22).
 pub fn values_held<T: DeserializeTerm>()
-    ensures option { (inputs : Inputs) (e : Error) → AreShown inputs e T.term.faults.fault → AreShown inputs e ⟦<Option<T> as DeserializeTerm>⟧.term.faults.fault }
-    ensures boxed { (inputs : Inputs) (e : Error) → AreShown inputs e T.term.faults.fault → AreShown inputs e ⟦<Box<T> as DeserializeTerm>⟧.term.faults.fault }
-    ensures counted { (inputs : Inputs) (e : Error) → AreShown inputs e T.term.faults.fault → AreShown inputs e ⟦<Rc<T> as DeserializeTerm>⟧.term.faults.fault }
-    ensures described { (inputs : Inputs) (e : Error) → AreShown inputs e T.term.faults.fault → AreShown inputs e ⟦<Described<T> as DeserializeTerm>⟧.term.faults.fault }
-    ensures list { (inputs : Inputs) (e : Error) → AreShown inputs e T.term.faults.fault → AreShown inputs e ⟦<Vec<T> as DeserializeTerm>⟧.term.faults.fault }
+    ensures option { (e : Error) → AreShown e T.term.faults.fault → AreShown e ⟦<Option<T> as DeserializeTerm>⟧.term.faults.fault }
+    ensures boxed { (e : Error) → AreShown e T.term.faults.fault → AreShown e ⟦<Box<T> as DeserializeTerm>⟧.term.faults.fault }
+    ensures counted { (e : Error) → AreShown e T.term.faults.fault → AreShown e ⟦<Rc<T> as DeserializeTerm>⟧.term.faults.fault }
+    ensures described { (e : Error) → AreShown e T.term.faults.fault → AreShown e ⟦<Described<T> as DeserializeTerm>⟧.term.faults.fault }
+    ensures list { (e : Error) → AreShown e T.term.faults.fault → AreShown e ⟦<Vec<T> as DeserializeTerm>⟧.term.faults.fault }
+{}
+
+/// The faults of an array of values by an error are shown by bytes, if those of the values are (Part 1, section 1.6.24); except by an error
+/// that the constructor of its items may have (`IsOfNoConstructor`), of which the decoder's contract says too little.
+pub fn arrays<T: DeserializeTerm>()
+    ensures { (e : Error) → IsOfNoConstructor e → AreShown e T.term.faults.fault → AreShown e ⟦<Array<T> as DeserializeTerm>⟧.term.faults.fault }
 {}
 
 /// The faults of a value of one type or another by an error are shown by bytes, if those of both types are.
 pub fn either_of_two<A: DeserializeTerm, B: DeserializeTerm>()
-    ensures { (inputs : Inputs) (e : Error) (is_first : ℕ → Bool) → AreShown inputs e A.term.faults.fault → AreShown inputs e B.term.faults.fault
-        → AreShown inputs e (EitherFault is_first A.term.faults B.term.faults) }
+    ensures { (e : Error) (is_first : ℕ → Bool) → AreShown e A.term.faults.fault → AreShown e B.term.faults.fault
+        → AreShown e (EitherFault is_first A.term.faults B.term.faults) }
 {}
 
 /// The faults of a map by an error are shown by bytes, if those of its keys and values are (Part 1, section 1.6.23); except `DuplicateKey`,
 /// whose place may be behind the last pair.
 pub fn maps<K: MapKey + Ord, V: DeserializeTerm>()
-    ensures by_order { (inputs : Inputs) (e : Error) → (e ≡ DuplicateKey → ⊥) → AreShown inputs e K.term.faults.fault → AreShown inputs e V.term.faults.fault
-        → AreShown inputs e ⟦<BTreeMap<K, V> as DeserializeTerm>⟧.term.faults.fault }
-    ensures as_read { (inputs : Inputs) (e : Error) → (e ≡ DuplicateKey → ⊥) → AreShown inputs e K.term.faults.fault → AreShown inputs e V.term.faults.fault
-        → AreShown inputs e ⟦<OrderedMap<K, V> as DeserializeTerm>⟧.term.faults.fault }
+    ensures by_order { (e : Error) → (e ≡ DuplicateKey → ⊥) → AreShown e K.term.faults.fault → AreShown e V.term.faults.fault
+        → AreShown e ⟦<BTreeMap<K, V> as DeserializeTerm>⟧.term.faults.fault }
+    ensures as_read { (e : Error) → (e ≡ DuplicateKey → ⊥) → AreShown e K.term.faults.fault → AreShown e V.term.faults.fault
+        → AreShown e ⟦<OrderedMap<K, V> as DeserializeTerm>⟧.term.faults.fault }
 {}
 
 /// The faults of a list of fields by an error are shown by bytes, if those of its fields are (Part 1, section 1.4).
 pub fn field_lists<L: FieldList>()
-    ensures { (inputs : Inputs) (e : Error) → FieldsShown inputs e L.list.fields → AreShown inputs e (FieldsFault L.list.fields) }
+    ensures { (e : Error) → FieldsShown e L.list.fields → AreShown e (FieldsFault L.list.fields) }
 {}
 
 /// The faults of a composite by an error are shown by bytes, if those of its fields are (Part 1, section 1.4).
 pub fn composites<C: Composite>()
-    ensures { (inputs : Inputs) (e : Error) → FieldsShown inputs e C.list.fields → AreShown inputs e ⟦<C as DeserializeTerm>⟧.term.faults.fault }
+    ensures { (e : Error) → FieldsShown e C.list.fields → AreShown e ⟦<C as DeserializeTerm>⟧.term.faults.fault }
 {}
 
 /// The faults of a sum of composites by an error are shown by bytes, if those of its members' fields are.
 pub fn sums<S: Sum>()
-    ensures { (inputs : Inputs) (e : Error) → ChoicesShown inputs e S.sum.choices → AreShown inputs e (sum_of S.sum).faults.fault }
+    ensures { (e : Error) → ChoicesShown e S.sum.choices → AreShown e (sum_of S.sum).faults.fault }
 {}
 
 /// Each fault of a list or map that isn't opened is shown by bytes (Part 1, sections 1.6.22 and 1.6.23). So is one that stands in it, behind
 /// some items, and one at its end.
 pub fn containers()
-    ensures unopened { (inputs : Inputs) (e : Error) (kind : Container) → (kind ≡ array → ⊥) → AreShown inputs e (Here (OpenFault kind)) }
-    ensures inside { (inputs : Inputs) (kind : Container) → (kind ≡ array → ⊥) → (st first mid : State) (n : ℕ) (ts : List Term) (b : List ℕ) (f : Located)
-        → Opens kind st n first → Row first ts b mid → length ts ≤ n → IsShown inputs mid f → IsShown inputs st f }
-    ensures unclosed { (inputs : Inputs) (kind : Container) → (kind ≡ array → ⊥) → (place : Place) (st first mid : State) (n : ℕ) (ts : List Term) (b : List ℕ)
-        (f : Located) → Opens kind st n first → Row first ts b mid → length ts ≤ n → Here (CloseFault place) mid f → IsShown inputs st f }
+    ensures unopened { (e : Error) (kind : Container) → (kind ≡ array → ⊥) → AreShown e (Here (OpenFault kind)) }
+    ensures inside { (kind : Container) → (kind ≡ array → ⊥) → (st first mid : State) (n : ℕ) (ts : List Term) (b : List ℕ) (f : Located)
+        → Opens kind st n first → Row first ts b mid → length ts ≤ n → IsShown mid f → IsShown st f }
+    ensures unclosed { (kind : Container) → (kind ≡ array → ⊥) → (place : Place) (st first mid : State) (n : ℕ) (ts : List Term) (b : List ℕ)
+        (f : Located) → Opens kind st n first → Row first ts b mid → length ts ≤ n → Here (CloseFault place) mid f → IsShown st f }
 {}
 
 /// Each fault of a described value that isn't opened, or whose descriptor is another's, is shown by bytes (Part 1, section 1.5). So is one
 /// of what the descriptor describes.
 pub fn descriptions()
-    ensures unopened { (inputs : Inputs) (e : Error) → AreShown inputs e (At open_left) }
-    ensures no_member { (inputs : Inputs) (e : Error) (members : List Member) → AreShown inputs e (At (one_of_left members)) }
-    ensures inside { (inputs : Inputs) (st inner : State) (d : Descriptor) (f : Located) → OpensDescribed st d inner → IsShown inputs inner f → IsShown inputs st f }
+    ensures unopened { (e : Error) → AreShown e (At open_left) }
+    ensures no_member { (e : Error) (members : List Member) → AreShown e (At (one_of_left members)) }
+    ensures inside { (st inner : State) (d : Descriptor) (f : Located) → OpensDescribed st d inner → IsShown inner f → IsShown st f }
 {}
