@@ -17,3 +17,6 @@ mod Sums
 mod Described
 mod Constructors
 mod Arrays
+mod Several
+mod Values
+mod Security

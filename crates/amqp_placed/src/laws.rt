@@ -19,6 +19,7 @@ ghost use Rattle.amqp_codec.specs.FieldReading.{FieldsFault};
 ghost use Rattle.amqp_codec.specs.EitherMeaning.{EitherFault};
 ghost use Rattle.amqp_sums.specs.Restricted.{IsUnknownError, RestrictedFault};
 ghost use Rattle.amqp_sums.specs.Choices.{sum_of};
+ghost use Rattle.amqp_containers.specs.Several.{multiple_faults, mandatory_faults};
 ghost use Rattle.amqp_placed.specs.Shown.{FieldsShown, ChoicesShown, IsOfNoConstructor};
 ghost use Rattle.amqp_placed.specs.Facing.{IsShown, AreShown};
 
@@ -28,7 +29,10 @@ use amqp_containers::Array;
 use amqp_described::Described;
 use amqp_maps::OrderedMap;
 use amqp_primitives::{Binary, Dec32, Dec64, Dec128, Timestamp, Uuid};
+use amqp_sasl::{SaslChallenge, SaslInit, SaslMechanisms, SaslOutcome, SaslResponse};
+use amqp_simple_values::SimpleValue;
 use amqp_sums::Sum;
+use amqp_values::{Value, ValueMap};
 use std::collections::BTreeMap;
 use std::rc::Rc;
 
@@ -82,6 +86,32 @@ pub fn values_held<T: DeserializeTerm>()
 /// that the constructor of its items may have (`IsOfNoConstructor`), of which the decoder's contract says too little.
 pub fn arrays<T: DeserializeTerm>()
     ensures { (e : Error) → IsOfNoConstructor e → AreShown e T.term.faults.fault → AreShown e ⟦<Array<T> as DeserializeTerm>⟧.term.faults.fault }
+{}
+
+/// The faults of a field of several values by an error are shown by bytes, if those of one value are (Part 1, section 1.4): of any number,
+/// and of at least one. The errors of the constructor that an array's items share are left out again.
+pub fn fields_of_several<T: DeserializeTerm>()
+    ensures any_number { (e : Error) → IsOfNoConstructor e → AreShown e T.term.faults.fault → AreShown e (multiple_faults T.term).fault }
+    ensures at_least_one { (e : Error) → IsOfNoConstructor e → AreShown e T.term.faults.fault → AreShown e (mandatory_faults T.term).fault }
+{}
+
+/// The faults of a value of any kind are shown by bytes, but for `DuplicateKey` and for the errors of the constructor that an array's items
+/// share.
+pub fn values()
+    ensures value { (e : Error) → IsOfNoConstructor e → (e ≡ DuplicateKey → ⊥) → AreShown e ⟦<Value as DeserializeTerm>⟧.term.faults.fault }
+    ensures map { (e : Error) → IsOfNoConstructor e → (e ≡ DuplicateKey → ⊥) → AreShown e ⟦<ValueMap as DeserializeTerm>⟧.term.faults.fault }
+    ensures simple { (e : Error) → IsOfNoConstructor e → (e ≡ DuplicateKey → ⊥)
+        → AreShown e ⟦<SimpleValue as DeserializeTerm>⟧.term.faults.fault }
+{}
+
+/// The faults of the composites of the security layer are shown by bytes (Part 5, section 5.3.3). In `SaslMechanisms`, an array, the errors
+/// of the constructor of its items are left out.
+pub fn security()
+    ensures mechanisms { (e : Error) → IsOfNoConstructor e → AreShown e ⟦<SaslMechanisms as DeserializeTerm>⟧.term.faults.fault }
+    ensures init { (e : Error) → AreShown e ⟦<SaslInit as DeserializeTerm>⟧.term.faults.fault }
+    ensures challenge { (e : Error) → AreShown e ⟦<SaslChallenge as DeserializeTerm>⟧.term.faults.fault }
+    ensures response { (e : Error) → AreShown e ⟦<SaslResponse as DeserializeTerm>⟧.term.faults.fault }
+    ensures outcome { (e : Error) → AreShown e ⟦<SaslOutcome as DeserializeTerm>⟧.term.faults.fault }
 {}
 
 /// The faults of a value of one type or another by an error are shown by bytes, if those of both types are.
