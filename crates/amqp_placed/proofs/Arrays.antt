@@ -59,7 +59,7 @@ content_shows st c w m0 n content m f P d around h code is header room shows =
     let past1 = past_taken m0 (bytes_high_first w header.size ++ bytes_high_first w n) m header.took in
     let has = has_bound m.top.sized m.top.left content room in
     let k = content_there array w n content header.size (bytes_open m0) (bytes_open m) header.fits header.few header.counts
-        (head_is x n content m header) in
+    (head_is x n content m header) in
     let first = in_container InArray 0 content m in
     let items = take content (bytes_open m) in
     let first_bytes : bytes_open first ≡ items = sym (take_up_to (bound_of m.top) content m.rest has) in
@@ -292,11 +292,14 @@ array_closing_shown st first last n ts b f o row all fault P d around h =
   where
     start : State
     start = in_container InArray 0 o.data_.content o.data_.mid
+
     room : HasRoom last
     room = room_row ts first b last row (room_in_array st n first o)
+
     none_taken : (ts : List Term) → length ts ≡ 0 → Row first ts b last → last ≡ first
     none_taken [] none row = row.1
     none_taken (t ∷ ts) none row = absurd (omega (arith, none))
+
     by_start : (inner : Around) → Begun d inner (in_container InArray 0 o.data_.content o.data_.mid)
         → ((max n o.data_.content ≡ 0) × (first ≡ in_container InArray 0 o.data_.content o.data_.mid))
         ⊎ ((0 < max n o.data_.content) × Shares n (in_container InArray 0 o.data_.content o.data_.mid) first)

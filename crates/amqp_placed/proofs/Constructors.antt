@@ -1,16 +1,16 @@
 -- The constructor that an array's items share (Part 1, section 1.2.4): its errors, and the level of what stands under it.
-use Rattle.std.proofs.Common.{◌≡◌, ℕ, suc, arith, leb, ◌⊎◌, inl, inr, Bool, true, false, cond, eqb, nat_lt, ◌||◌, List, [], ◌∷◌, length, refl, sym, ap, ◌∙◌, subst}
+use Rattle.std.proofs.Common.{◌≡◌, ℕ, suc, arith, leb, ◌⊎◌, inl, inr, Bool, true, false, cond, eqb, nat_lt, ◌||◌, List, [], ◌∷◌, length, refl, ap, subst}
 use Rattle.std.proofs.lemmas.Bool.{eqb-true, lt-ltb}
 use Rattle.amqp_model.specs.Term.{Descriptor}
 use Rattle.amqp_model.specs.Constructors.{Format, fixed, variable, compound, unknown, format}
 use Rattle.amqp_model.specs.Spelling.{IsKnown}
 use Rattle.amqp_wire.specs.declared.error.Error.{Error}
 use Rattle.amqp_wire.specs.declared.error.Error.TheVariants.{UnknownCode, FloatCode, WrongType, Depth, Limit}
-use Rattle.amqp_wire.specs.Codes.{is_known, refusal_of}
+use Rattle.amqp_wire.specs.Codes.{is_known}
 use Rattle.amqp_lengths.specs.Pieces.{IsPrimitive}
 use Rattle.amqp_lengths.specs.Stands.{level_of}
 use Rattle.amqp_lengths.proofs.Codes.{container_at}
-use Rattle.amqp_decoder.specs.State.{State, depth_error}
+use Rattle.amqp_decoder.specs.State.{State}
 use Rattle.amqp_decoder.specs.Steps.{Lacks, cut_open, past_limit, cut_inside, too_long}
 use Rattle.amqp_decoder.specs.Primitives.{LacksData}
 use Rattle.amqp_decoder.specs.Described as described
@@ -83,8 +83,10 @@ constructor_not m e (no_known_code ds c m2 t some none is) h =
     not_so : (t : Bool) → (t ≡ true → ⊥) → t ≡ false
     not_so true h = absurd (h refl)
     not_so false h = refl
+
     not_zero : (c : ℕ) → (c ≡ 0 → ⊥) → eqb c 0 ≡ false
     not_zero c some = not_so (eqb c 0) (λ e. some (eqb-true c 0 e))
+
     not_known : (F : Format) → (IsKnown F → ⊥) → is_known F ≡ false
     not_known unknown none = refl
     not_known (fixed w v) none = absurd (none tt)

@@ -1,5 +1,4 @@
 -- A value behind a descriptor of its own (Part 1, section 1.2).
-use Rattle.std.proofs.Common.{◌≡◌}
 use Rattle.amqp_wire.specs.declared.error.Error.{Error}
 use Rattle.amqp_decoder.specs.State.{State}
 use Rattle.amqp_decoder.specs.Places.{Located}

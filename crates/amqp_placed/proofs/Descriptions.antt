@@ -1,22 +1,20 @@
 -- Described values: their descriptors, and what these describe (Part 1, sections 1.2 and 1.5).
-use Rattle.std.proofs.Common.{◌≡◌, ℕ, zero, suc, ◌+◌, ◌<◌, ◌≤◌, ◌⊎◌, inl, inr, Bool, true, false, cond, Option, Some, None, unwrap_or}
+use Rattle.std.proofs.Common.{◌≡◌, ℕ, suc, ◌<◌, ◌≤◌, inl, inr, Bool, true, false, cond, Option, Some, None, unwrap_or}
 use Rattle.std.proofs.Common.{List, [], ◌∷◌, ◌++◌, length, refl, sym, ap, ◌∙◌, subst, arith}
 use Rattle.std.proofs.lemmas.List.{length-append}
 use Rattle.amqp_model.specs.Term.{Primitive, Descriptor, name, symbol}
 use Rattle.amqp_model.specs.Constructors.{format}
 use Rattle.amqp_model.specs.Spelling.{PrimitiveData, IsKnown, descriptor_value}
 use Rattle.amqp_wire.specs.declared.error.Error.{Error}
-use Rattle.amqp_wire.specs.declared.error.Error.TheVariants.{Depth, BadDescriptor, NonAscii, WrongDescriptor}
+use Rattle.amqp_wire.specs.declared.error.Error.TheVariants.{Depth, NonAscii, WrongDescriptor}
 use Rattle.amqp_wire.specs.Codes.{refusal_of}
 use Rattle.amqp_lookahead.specs.Kinds.{kind_of, kind_at, codes_of, ulongs, symbols}
 use Rattle.amqp_lookahead.specs.Members.{Member}
 use Rattle.amqp_lookahead.proofs.KindsOfCodes.{OneOf, kind_codes, kind_data}
-use Rattle.amqp_lengths.specs.Fronts.{Behind}
-use Rattle.amqp_lengths.specs.Pieces.{IsDescriptorCode, NamesAny}
+use Rattle.amqp_lengths.specs.Pieces.{IsDescriptorCode}
 use Rattle.amqp_lengths.specs.Stands.{Piece, a_value, an_item, an_element, a_descriptor, Around, unbounded, whole_one, cut_one, IsOwn, Step}
 use Rattle.amqp_lengths.specs.Stands.{to_descriptor, to_described, to_its_described, IsMarked, IsDescriptor, IsWrong}
-use Rattle.amqp_decoder.specs.State.{State, Has, emptied, lower, bound_of, bytes_left, announced, depth_error}
-use Rattle.amqp_decoder.specs.Steps.{Takes}
+use Rattle.amqp_decoder.specs.State.{State, emptied, bound_of, depth_error}
 use Rattle.amqp_decoder.specs.Rooms.{HasFlatItems}
 use Rattle.amqp_decoder.specs.Reading.{IsFirst, ReadsCode}
 use Rattle.amqp_decoder.specs.Described as described
@@ -26,7 +24,7 @@ use Rattle.amqp_decoder.specs.Described.{not_open, nameless, not_described, no_d
 use Rattle.amqp_decoder.specs.Places.{Located, At}
 use Rattle.amqp_decoder.proofs.Rooms.{room_in_described}
 use Rattle.amqp_placed.specs.Facing.{bytes_open, IsAround, IsUnderShared, IsNext, Faces, Shows, IsShown}
-use Rattle.amqp_placed.proofs.Past.{Past, past_code, past_taken, past_both, past_bytes, past_length, past_around, past_unlimited, past_bound}
+use Rattle.amqp_placed.proofs.Past.{Past, past_code, past_taken, past_both, past_bytes, past_length, past_around, past_unlimited}
 use Rattle.amqp_placed.proofs.Codes.{other_kind_wrong}
 use Rattle.amqp_placed.proofs.Primitives.{data_wrong, no_value_wrong}
 use Rattle.amqp_placed.proofs.Here.{wrong_as, deep_here, here_shows, lacks_wrong, next_left, begin_wrong, other_code_wrong}
@@ -52,7 +50,7 @@ described_wrong st e P d around h (other_code {c} {m} code some is) =
     wrong_as e (refusal_of c) around P d (bytes_open st) is (other_code_wrong st c m P d around h code)
 described_wrong st e P d around h (too_deep {m} code deep is) =
     let k = marked st.top.shared P code.own (bytes_open st) (bytes_open m) (next_left st.top.items st.top.shared P code.item h.next)
-        code.first (past_bytes (past_code st 0 m code)) in
+    code.first (past_bytes (past_code st 0 m code)) in
     let most : 128 ≤ d = omega (arith, deep, deep_here st P d around h code.item k.1, h.nesting) in
     wrong_as e Depth around P d (bytes_open st) (is ∙ ap depth_error h.nesting) (inl (inl (k.0, most)))
 
@@ -146,6 +144,7 @@ other_shows st m m' D f P d around h code took error is =
   where
     past : Past code.own st m
     past = past_code st 0 m code
+
     by_shared : (o : Option (List Descriptor × ℕ)) → st.top.shared ≡ o → IsUnderShared o P → IsFirst o 0 code.own
         → described.IsDescriptor o D took.own → Shows st f P d around
     by_shared None o own first names =
@@ -210,6 +209,7 @@ described_around m around h = go around h
   where
     outer : unwrap_or (cond m.top.sized (emptied m.top.left) None) 0 ≡ 0
     outer = none_left m.top.sized m.top.left
+
     go : (around : Around) → IsAround around m → IsAround around (in_described m)
     go unbounded (none, rest) = (none, omega (arith, outer, rest))
     go whole_one (l, some, all) = (l, some, omega (arith, outer, all))
@@ -227,11 +227,11 @@ described_shown st inner D f o shown P d around h =
     let same : o.coded.top.shared ≡ st.top.shared = ap (λ (x : State). x.top.shared) o.begun.moved in
     let names : described.IsDescriptor st.top.shared D t.own = subst (λ s. described.IsDescriptor s D t.own) same t.descriptor in
     let shared : inner.top.shared ≡ behind st.top.shared =
-        ap (λ (x : State). x.top.shared) o.opened ∙ ap (λ (x : State). behind x.top.shared) t.took.moved ∙ ap behind same in
+    ap (λ (x : State). x.top.shared) o.opened ∙ ap (λ (x : State). behind x.top.shared) t.took.moved ∙ ap behind same in
     let k = described_step st.top.shared P d D o.begun.own t.own (bytes_open st) (bytes_open inner)
-        (next_left st.top.items st.top.shared P o.begun.item h.next) o.begun.first names whole in
+    (next_left st.top.items st.top.shared P o.begun.item h.next) o.begun.first names whole in
     let saved : length inner.saved ≡ suc (length st.saved) =
-        ap (λ (x : State). length x.saved) o.opened ∙ ap (λ l. suc (length l)) past.saved in
+    ap (λ (x : State). length x.saved) o.opened ∙ ap (λ l. suc (length l)) past.saved in
     let faces : Faces inner k.piece (suc d) around = record {
       nesting = ap (λ (x : State). x.nesting) o.opened ∙ past.nesting ∙ h.nesting;
       uncounted = ap (λ (x : State). x.quota) o.opened ∙ past.uncounted h.uncounted;

@@ -1,5 +1,5 @@
 -- Why a container isn't at its end, or isn't closed there.
-use Rattle.std.proofs.Common.{◌≡◌, ℕ, zero, suc, ◌+◌, ◌<◌, ◌≤◌, inr, Option, Some, None, unwrap_or, List, length, refl, sym, ap, ◌∙◌, subst, arith}
+use Rattle.std.proofs.Common.{◌≡◌, ℕ, zero, suc, ◌<◌, ◌≤◌, inr, Option, Some, None, unwrap_or, List, length, refl, sym, ap, ◌∙◌, arith}
 use Rattle.std.proofs.lemmas.List.{length-take}
 use Rattle.amqp_model.specs.Term.{Container, array, Term, Descriptor}
 use Rattle.amqp_wire.specs.declared.error.Error.{Error}
@@ -11,7 +11,7 @@ use Rattle.amqp_decoder.specs.Steps.{SizeError, cut, wrong, past, asked_in}
 use Rattle.amqp_decoder.specs.Containers.{Opens, EndFault, other_place, nothing_open, items_left, CloseFault, not_at_end, bytes_left_over}
 use Rattle.amqp_decoder.specs.Items.{Row}
 use Rattle.amqp_decoder.specs.Places.{Located, Here}
-use Rattle.amqp_placed.specs.Facing.{up_to, bytes_open, IsAround, IsUnderShared, IsNext, Faces, IsShown}
+use Rattle.amqp_placed.specs.Facing.{up_to, bytes_open, IsAround, IsNext, Faces, IsShown}
 use Rattle.amqp_placed.proofs.Past.{past_bound}
 use Rattle.amqp_placed.proofs.Here.{none_some, wrong_as, here_shows, shared_begins, next_end}
 use Rattle.amqp_placed.proofs.Inside.{in_row, inside_shown}
@@ -40,7 +40,7 @@ over_wrong st l e P d cut_one bound some ends h (cut within few is) =
 over_wrong st l e P d whole_one bound some ends h (wrong within enough is) =
     let least : l ≤ announced st = omega (arith, ap (λ x. unwrap_or x 0) bound) in
     let there : 0 < length (bytes_open st) =
-        omega (arith, some, least, h.2, ap (λ x. length (up_to x st.rest)) bound, length-take l st.rest) in
+    omega (arith, some, least, h.2, ap (λ x. length (up_to x st.rest)) bound, length-take l st.rest) in
     wrong_as e Size whole_one P d (bytes_open st) is
     (inr (inr (ends, there)))
 over_wrong st l e P d cut_one bound some ends h (wrong within enough is) =
@@ -65,5 +65,5 @@ closing_shown kind other place st first mid n ts b f o row few fault =
     let own : first.top.shared ≡ None = ap (λ (x : State). x.top.shared) o.data_.entered in
     let r = in_row ts b first mid own row in
     let bound : bound_of mid.top ≡ Some _ =
-        past_bound r.past ∙ ap (λ x. lower x (length b)) (ap (λ (x : State). bound_of x.top) o.data_.entered) in
+    past_bound r.past ∙ ap (λ x. lower x (length b)) (ap (λ (x : State). bound_of x.top) o.data_.entered) in
     inside_shown kind other st first mid n ts b f o row few (close_shown place mid _ f bound fault)

@@ -1,7 +1,6 @@
 -- A fault of a list of fields is shown by bytes, where those of its fields are (Part 1, section 1.4).
-use Rattle.std.proofs.Common.{◌≡◌, ℕ, zero, suc, ◌+◌, ◌<◌, ◌≤◌, min, inl, inr, Option, Some, None, unwrap_or, List, length, refl, sym, ap, ◌∙◌, subst, arith}
-use Rattle.amqp_model.specs.Term.{null, Container, list, array}
-use Rattle.amqp_model.specs.Fields.{rules_of}
+use Rattle.std.proofs.Common.{◌≡◌, ℕ, zero, suc, ◌<◌, inl, inr, Some, None, unwrap_or, List, length, sym, ap, ◌∙◌, subst, arith}
+use Rattle.amqp_model.specs.Term.{list, array}
 use Rattle.amqp_model.specs.declared.tables.FieldRule.{FieldRule}
 use Rattle.amqp_model.specs.declared.tables.FieldRule.TheVariants.{Mandatory, Optional, Default, Multiple, MandatoryMultiple}
 use Rattle.amqp_wire.specs.declared.error.Error.{Error}
@@ -9,12 +8,11 @@ use Rattle.amqp_wire.specs.declared.error.Error.TheVariants.{Missing, EmptyMulti
 use Rattle.amqp_lengths.specs.Stands.{Piece, an_item, an_end, Around, IsAbsent, IsWrong}
 use Rattle.amqp_decoder.specs.declared.frame.Place.TheVariants.{InList}
 use Rattle.amqp_decoder.specs.State.{State}
-use Rattle.amqp_decoder.specs.Primitives.{ReadsValue, Means}
 use Rattle.amqp_decoder.specs.Places.{Located}
-use Rattle.amqp_codec.specs.Fields.{Fields, none, field, slots}
-use Rattle.amqp_codec.specs.FieldReading.{absence, rule_at, FaultAt, ItemFault, no_item, null_item, in_item, FieldsSoFar, FieldsFault, no_list}
+use Rattle.amqp_codec.specs.Fields.{Fields, none, field}
+use Rattle.amqp_codec.specs.FieldReading.{absence, rule_at, FaultAt, ItemFault, no_item, null_item, in_item, FieldsFault, no_list}
 use Rattle.amqp_codec.specs.FieldReading.{at_item, left_out, not_ended}
-use Rattle.amqp_placed.specs.Facing.{bytes_open, Faces, Shows, IsShown, AreShown, IsAt}
+use Rattle.amqp_placed.specs.Facing.{bytes_open, Faces, Shows, AreShown, IsAt}
 use Rattle.amqp_placed.specs.Shown.{FieldsShown}
 use Rattle.amqp_placed.proofs.Here.{wrong_as, here_shows, begin_shown, peeked_shown}
 use Rattle.amqp_placed.proofs.Opening.{open_shown}

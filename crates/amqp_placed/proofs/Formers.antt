@@ -1,19 +1,19 @@
 -- A fault of a type that is made of other types is shown by bytes, where theirs are.
-use Rattle.std.proofs.Common.{◌≡◌, ℕ, suc, ◌+◌, ◌-◌, ◌<◌, ◌≤◌, inl, inr, Bool, Some, None, List, [], ◌∷◌, length, refl, sym, ap, ◌∙◌, subst, arith}
+use Rattle.std.proofs.Common.{◌≡◌, ℕ, suc, inl, inr, Bool, Some, length, ap, ◌∙◌, arith}
 use Rattle.amqp_wire.specs.declared.error.Error.{Error}
 use Rattle.amqp_decoder.specs.declared.frame.Place.TheVariants.{InDescribed}
-use Rattle.amqp_decoder.specs.State.{Open, State, lower}
+use Rattle.amqp_decoder.specs.State.{State, lower}
 use Rattle.amqp_decoder.specs.Containers.{EndFault, other_place, nothing_open, items_left}
 use Rattle.amqp_decoder.specs.Described.{OpensDescribed}
 use Rattle.amqp_decoder.specs.Items.{Next}
-use Rattle.amqp_decoder.specs.Places.{Located, Here}
+use Rattle.amqp_decoder.specs.Places.{Located}
 use Rattle.amqp_model.specs.Term.{Descriptor, Term}
 use Rattle.amqp_codec.specs.Faults.{Faults}
 use Rattle.amqp_codec.specs.OptionMeaning.{OptionFault}
 use Rattle.amqp_codec.specs.EitherMeaning.{EitherFault, no_value, in_first, in_second}
 use Rattle.amqp_codec.specs.Members as members
 use Rattle.amqp_codec.specs.Members.{Members, MemberFault, no_member, in_member}
-use Rattle.amqp_placed.specs.Facing.{IsShown, AreShown}
+use Rattle.amqp_placed.specs.Facing.{AreShown}
 use Rattle.amqp_placed.specs.Shown.{AreTerms}
 use Rattle.amqp_placed.proofs.Here.{begin_shown, peeked_shown}
 use Rattle.amqp_placed.proofs.Descriptions.{no_member_shown, described_shown}
@@ -25,7 +25,7 @@ described_ends st inner last d t e o next (other_place differs is) =
     differs (ap (λ (x : State). x.top.place) next.moved ∙ ap (λ (x : State). x.top.place) o.opened)
 described_ends st inner last d t e o next (nothing_open none is) =
     let saved : length last.saved ≡ suc (length o.named.saved) =
-        ap (λ (x : State). length x.saved) next.moved ∙ ap (λ (x : State). length x.saved) o.opened in
+    ap (λ (x : State). length x.saved) next.moved ∙ ap (λ (x : State). length x.saved) o.opened in
     omega (arith, saved, ap length none)
 described_ends st inner last d t e o next (items_left open_ some is) =
     some (ap (λ (x : State). x.top.items) next.moved ∙ ap (λ (x : State). lower x.top.items 1) o.opened ∙ ap Some (omega arith))

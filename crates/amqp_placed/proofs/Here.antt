@@ -1,6 +1,6 @@
 -- What is at fault where a decoder stands.
-use Rattle.std.proofs.Common.{◌≡◌, ℕ, zero, suc, ◌+◌, ◌-◌, ◌<◌, ◌≤◌, ◌⊎◌, inl, inr, Option, Some, None, unwrap_or}
-use Rattle.std.proofs.Common.{List, [], ◌∷◌, ◌++◌, length, take, refl, sym, ap, ◌∙◌, subst, subst₂, arith}
+use Rattle.std.proofs.Common.{◌≡◌, ℕ, zero, suc, ◌<◌, ◌≤◌, ◌⊎◌, inl, inr, Option, Some, None}
+use Rattle.std.proofs.Common.{List, [], ◌∷◌, ◌++◌, length, refl, sym, ap, ◌∙◌, subst, subst₂, arith}
 use Rattle.std.proofs.lemmas.List.{length-take}
 use Rattle.amqp_model.specs.Term.{Descriptor}
 use Rattle.amqp_model.specs.Constructors.{format}
@@ -9,9 +9,9 @@ use Rattle.amqp_wire.specs.declared.error.Error.{Error}
 use Rattle.amqp_wire.specs.declared.error.Error.TheVariants.{Cut, Size, Missing}
 use Rattle.amqp_wire.specs.Codes.{refusal_of}
 use Rattle.amqp_lengths.specs.Announced.{Wants}
-use Rattle.amqp_lengths.specs.Stands.{Piece, a_value, an_item, an_element, a_descriptor, an_array, a_code, an_end, Around, unbounded, whole_one}
+use Rattle.amqp_lengths.specs.Stands.{Piece, a_value, an_item, an_end, Around, unbounded, whole_one}
 use Rattle.amqp_lengths.specs.Stands.{cut_one, outermost, IsOwn, IsUnder, IsEnd, no_step, Begins, IsWanting, HasCode, HasUnknown, IsAbsent, IsWrong, StandsFrom}
-use Rattle.amqp_decoder.specs.State.{State, Has, bound_of, announced, counted_in, after_look}
+use Rattle.amqp_decoder.specs.State.{State, Has, bound_of, counted_in, after_look}
 use Rattle.amqp_decoder.specs.Steps.{Lacks, cut_open, past_limit, cut_inside, too_long}
 use Rattle.amqp_decoder.specs.Rooms.{HasFlatItems}
 use Rattle.amqp_decoder.specs.Reading.{IsFirst, ReadsCode, BeginFault, missing, no_code, one_too_many, after_peek, PeeksCode}

@@ -1,7 +1,7 @@
 -- From a list or map that was opened to an item of it, or to its end (Part 1, sections 1.6.22 and 1.6.23).
 use Rattle.std.proofs.Common.{◌≡◌, ℕ, zero, suc, ◌+◌, ◌-◌, ◌<◌, ◌≤◌, ◌⊎◌, inl, inr, Option, Some, None, unwrap_or, List, [], ◌∷◌, ◌++◌}
-use Rattle.std.proofs.Common.{length, take, drop, refl, sym, ap, ◌∙◌, subst, arith}
-use Rattle.std.proofs.lemmas.List.{length-append, length-take, take-take}
+use Rattle.std.proofs.Common.{length, take, refl, sym, ap, ◌∙◌, subst, arith}
+use Rattle.std.proofs.lemmas.List.{length-append, take-take}
 use Rattle.std.specs.Int.{bytes_high_first}
 use Rattle.amqp_model.specs.Term.{Container, list, map, array, Term, Descriptor}
 use Rattle.amqp_model.specs.Constructors.{compound, format}
@@ -9,20 +9,20 @@ use Rattle.amqp_lengths.specs.Fronts.{Behind}
 use Rattle.amqp_lengths.specs.Lengths as lengths
 use Rattle.amqp_lengths.specs.Stands.{Piece, an_item, an_end, Around, unbounded, whole_one, cut_one, outermost, AnyTerm, Step, to_item, to_end}
 use Rattle.amqp_decoder.specs.State.{Open, State, Has, lower, bound_of, bytes_left, announced, after_value, weight_at, items_of, in_container}
-use Rattle.amqp_decoder.specs.Primitives.{standing, SpellsAs, Stands}
-use Rattle.amqp_decoder.specs.Containers.{place_of, is_list, Opens}
+use Rattle.amqp_decoder.specs.Primitives.{standing, SpellsAs}
+use Rattle.amqp_decoder.specs.Containers.{place_of, Opens}
 use Rattle.amqp_decoder.specs.Items.{Row}
 use Rattle.amqp_decoder.specs.Places.{Located}
-use Rattle.amqp_decoder.proofs.Steps.{has_none, lower_none}
-use Rattle.amqp_decoder.proofs.ReadPrimitives.{has_add, lower-lower}
+use Rattle.amqp_decoder.proofs.Steps.{lower_none}
+use Rattle.amqp_decoder.proofs.ReadPrimitives.{lower-lower}
 use Rattle.amqp_decoder.proofs.Rooms.{room_row, room_inside}
 use Rattle.amqp_placed.specs.Facing.{up_to, bytes_open, IsAround, IsNext, Faces, Shows, IsShown, IsAt}
 use Rattle.amqp_placed.proofs.Past.{Past, past_code, past_taken, past_value, past_none, past_both, has_bound, past_bytes, lowered_bound}
-use Rattle.amqp_placed.proofs.Past.{lowered_sum, past_length, past_around, past_bound, past_unlimited}
-use Rattle.amqp_placed.proofs.Here.{none_some, code_taken}
+use Rattle.amqp_placed.proofs.Past.{lowered_sum, past_length, past_around, past_unlimited}
+use Rattle.amqp_placed.proofs.Here.{none_some}
 use Rattle.amqp_placed.proofs.Onward.{onward_shows}
-use Rattle.amqp_placed.proofs.Contents.{Content, content_there}
-use Rattle.amqp_placed.proofs.Opening.{Entering, entering, compound_some, head_is}
+use Rattle.amqp_placed.proofs.Contents.{content_there}
+use Rattle.amqp_placed.proofs.Opening.{entering, compound_some, head_is}
 
 -- terms that were taken in turn, under what they share, each as bytes of which Q holds
 pub record InRow (Q : List ℕ → Type 0) (o : Option (List Descriptor × ℕ)) (ts : List Term) (b : List ℕ) (st mid : State) : Type 0 where
@@ -74,8 +74,10 @@ entered_around m n content place around inner room h told = go around inner h to
   where
     first : State
     first = in_container place n content m
+
     all : announced (in_container place n content m) ≡ content + (unwrap_or (lower (bound_of m.top) content) 0 + bytes_left m.saved)
     all = ap (λ q. content + (unwrap_or q 0 + bytes_left m.saved)) (bound_lowered m.top content)
+
     go : (around inner : Around) → IsAround around m
         → ((inner ≡ whole_one) × (content ≤ length (bytes_open m))) ⊎ ((inner ≡ cut_one) × (length (bytes_open m) < content))
         → IsAround (outermost around inner) (in_container place n content m)
@@ -141,21 +143,21 @@ inside_shows kind other st first mid n ts b f o row few shown P d around h =
     let r = in_row ts b first mid own row in
     let room = has_bound m.top.sized m.top.left e.content e.room in
     let k = content_there kind o.width n e.content head.size (bytes_open o.mid) (bytes_open m) head.fits head.few head.counts
-        (head_is x n e.content m head) in
+    (head_is x n e.content m head) in
     let items = take e.content (bytes_open m) in
     let first_bytes : bytes_open first ≡ items =
-        ap bytes_open e.entered ∙ sym (take_up_to (bound_of m.top) e.content m.rest room) in
+    ap bytes_open e.entered ∙ sym (take_up_to (bound_of m.top) e.content m.rest room) in
     let behind : Behind (lengths.Row AnyTerm (length ts)) items (bytes_open mid) =
-        record { front = b; is = sym first_bytes ∙ past_bytes r.past; spelled = r.spelled } in
+    record { front = b; is = sym first_bytes ∙ past_bytes r.past; spelled = r.spelled } in
     let around1 = past_around past1 around (past_around past0 around h.is_around) in
     let first_around : IsAround (outermost around k.inner) first =
-        subst (IsAround (outermost around k.inner)) (sym e.entered)
-        (entered_around m n e.content (place_of kind) around k.inner room around1 k.told) in
+    subst (IsAround (outermost around k.inner)) (sym e.entered)
+    (entered_around m n e.content (place_of kind) around k.inner room around1 k.told) in
     let first_bound : bound_of first.top ≡ Some e.content = ap (λ (x : State). bound_of x.top) e.entered in
     let saved : length mid.saved ≡ suc (length st.saved) =
-        ap length r.past.saved ∙ ap (λ (x : State). length x.saved) e.entered ∙ ap suc (ap length past1.saved ∙ ap length past0.saved) in
+    ap length r.past.saved ∙ ap (λ (x : State). length x.saved) e.entered ∙ ap suc (ap length past1.saved ∙ ap length past0.saved) in
     let left : mid.top.items ≡ Some (n - length ts) =
-        r.items ∙ ap (λ x. lower x (length ts)) (ap (λ (x : State). x.top.items) e.entered ∙ items_in kind n) in
+    r.items ∙ ap (λ x. lower x (length ts)) (ap (λ (x : State). x.top.items) e.entered ∙ items_in kind n) in
     let w = within kind other n (length ts) d few in
     let faces : Faces mid w.piece (suc d) (outermost around k.inner) = record {
       nesting = r.past.nesting ∙ ap (λ (x : State). x.nesting) e.entered ∙ past1.nesting ∙ past0.nesting ∙ h.nesting;
@@ -167,7 +169,7 @@ inside_shows kind other st first mid n ts b f o row few shown P d around h =
       deep = inr (inr (omega (arith, x.deep, saved, ap length past0.saved)));
     } in
     let step = w.step P (bytes_open st) (bytes_open o.mid) items (bytes_open mid) o.code o.width k.behind k.inner
-        (x.coded.under (compound_some o.code kind o.width o.announced)) o.announced k.contains behind in
+    (x.coded.under (compound_some o.code kind o.width o.announced)) o.announced k.contains behind in
     let sum : length (bytes_open st) + length mid.rest ≡ length st.rest + length (bytes_open mid) + k.behind = omega (
       arith,
       k.long,

@@ -1,7 +1,7 @@
 -- A fault of a list of values or of a map is shown by bytes, where those of its items are (Part 1, sections 1.6.22 and 1.6.23).
-use Rattle.std.proofs.Common.{◌≡◌, ℕ, suc, ◌+◌, ◌*◌, ◌<◌, ◌≤◌, ◌%◌, inl, inr, List, [], ◌∷◌, ◌++◌, length, refl, sym, ap, ◌∙◌, subst, arith}
+use Rattle.std.proofs.Common.{◌≡◌, ℕ, suc, ◌*◌, List, [], ◌∷◌, ◌++◌, length, refl, sym, ap, ◌∙◌, subst, arith}
 use Rattle.std.proofs.lemmas.List.{length-append}
-use Rattle.amqp_model.specs.Term.{Container, list, map, array, Term}
+use Rattle.amqp_model.specs.Term.{list, map, array, Term}
 use Rattle.amqp_model.specs.Standing.{Standing}
 use Rattle.amqp_wire.specs.declared.error.Error.{Error}
 use Rattle.amqp_wire.specs.declared.error.Error.TheVariants.{DuplicateKey}
@@ -16,7 +16,7 @@ use Rattle.amqp_codec.specs.ItemsReading.{ReadsEach, ItemsFault, unopened, at_it
 use Rattle.amqp_codec.specs.MapReading as maps
 use Rattle.amqp_codec.specs.MapReading.{Pairs, PairsFault, at_key, twice, told_twice, at_value, MapFault, at_pair}
 use Rattle.amqp_codec.specs.VecType.{list_opening}
-use Rattle.amqp_placed.specs.Facing.{IsShown, AreShown}
+use Rattle.amqp_placed.specs.Facing.{AreShown}
 use Rattle.amqp_placed.proofs.Opening.{open_shown}
 use Rattle.amqp_placed.proofs.Inside.{inside_shown}
 use Rattle.amqp_placed.proofs.Ends.{closing_shown}
@@ -94,7 +94,7 @@ module _ {K V : Type 0} (key : TermType K) (value : TermType V) where
   map_shown e other keys values st f is (at_pair {n} {first} o (at_value ps mid after k h read fault)) =
       let t = pairs_taken first ps mid h.each in
       let behind = one_behind first mid after (2 * length ps) t
-          (one_taken key.means mid after after k 0 read (none_taken after after refl)) in
+      (one_taken key.means mid after after k 0 read (none_taken after after refl)) in
       inside_shown map not_array st first after (2 * n) behind.terms behind.bytes f o behind.row
       (omega (arith, behind.long, h.fewer)) (values after f is fault)
   map_shown e other keys values st f is (maps.unclosed {n} {first} {ps} {last} o h fault) =

@@ -1,5 +1,5 @@
 -- One step further in, and the start of an input.
-use Rattle.std.proofs.Common.{◌≡◌, ℕ, ◌+◌, ◌<◌, ◌≤◌, ◌⊎◌, inr, None, List, ◌++◌, length, refl, sym, ap, subst, arith}
+use Rattle.std.proofs.Common.{◌≡◌, ℕ, ◌+◌, inr, List, length, refl, sym, ap, subst, arith}
 use Rattle.amqp_wire.specs.declared.error.Error.{Error}
 use Rattle.amqp_lengths.specs.Stands.{Piece, a_value, Around, unbounded, whole_one, cut_one, outermost, Step, steps, IsWrong, StandsFrom}
 use Rattle.amqp_lengths.specs.Stands.{StandsAt}

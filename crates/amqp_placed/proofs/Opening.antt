@@ -1,5 +1,5 @@
 -- Why no list, map or array is opened, as far as its size and its count say (Part 1, section 1.2.3).
-use Rattle.std.proofs.Common.{◌≡◌, ℕ, zero, suc, ◌+◌, ◌<◌, ◌≤◌, ◌^◌, ◌%◌, ◌⊎◌, inl, inr, Bool, true, false, cond, Option, Some, None}
+use Rattle.std.proofs.Common.{◌≡◌, ℕ, zero, suc, ◌<◌, ◌≤◌, ◌^◌, inl, inr, Bool, true, false, cond, Option, Some, None}
 use Rattle.std.proofs.Common.{List, [], ◌∷◌, ◌++◌, length, take, refl, sym, ap, ◌∙◌, subst, arith, append_assoc}
 use Rattle.std.proofs.lemmas.List.{length-append, length-take}
 use Rattle.std.specs.Int.{bytes_high_first}
@@ -14,17 +14,17 @@ use Rattle.amqp_lengths.specs.Lengths.{HasPairs}
 use Rattle.amqp_lengths.specs.Faults.{content_small, content_counted}
 use Rattle.amqp_lengths.specs.Stands.{Piece, Around, unbounded, whole_one, cut_one, IsUnder, IsWanting, IsContainer, HasWrongSize, IsWrong}
 use Rattle.amqp_decoder.specs.State.{State, depth_error, Has, bound_of, announced}
-use Rattle.amqp_decoder.specs.Steps.{Takes, SizeError, cut, wrong, past, asked_in, NoRoom}
+use Rattle.amqp_decoder.specs.Steps.{SizeError, cut, wrong, past, asked_in, NoRoom}
 use Rattle.amqp_decoder.specs.Rooms.{HasFlatItems}
 use Rattle.amqp_decoder.specs.Arrays.{IsFlat}
 use Rattle.amqp_decoder.specs.Reading.{IsFirst, ReadsCode}
-use Rattle.amqp_decoder.specs.Containers.{is_list, IsCount, Counts, IsPossible, ReadsHeader, HeaderFault, no_size, impossible, no_count}
+use Rattle.amqp_decoder.specs.Containers.{is_list, IsCount, Counts, ReadsHeader, HeaderFault, no_size, impossible, no_count}
 use Rattle.amqp_decoder.specs.Containers.{no_content, EnterFault, no_header, odd_count, no_room, too_deep, OpenFault, not_begun, wrong_code, no_data}
 use Rattle.amqp_decoder.specs.Places.{Located, Here}
 use Rattle.amqp_placed.specs.Facing.{up_to, bytes_open, IsAround, Faces, IsShown}
 use Rattle.amqp_placed.proofs.Past.{past_code, past_taken, past_bytes, past_around, past_unlimited}
-use Rattle.amqp_placed.proofs.Here.{none_some, deep_here, wrong_as, here_shows, lacks_wrong, Coded, code_taken, begin_wrong, other_code_wrong}
-use Rattle.amqp_placed.proofs.Contents.{fewer, listed, least_content, own_content, content_there}
+use Rattle.amqp_placed.proofs.Here.{deep_here, wrong_as, here_shows, lacks_wrong, Coded, code_taken, begin_wrong, other_code_wrong}
+use Rattle.amqp_placed.proofs.Contents.{fewer, least_content, own_content, content_there}
 
 -- A size isn't what is there.
 size_wrong : (around : Around) (P : Piece) (d : ℕ) (z : List ℕ) (own : ℕ) (m : State) (e : Error) → IsAround around m
@@ -42,11 +42,11 @@ size_wrong unbounded P d z own m e h unlimited wants size (wrong within enough i
 size_wrong whole_one P d z own m e h unlimited wants size (cut within few is) =
     absurd (omega (arith, few, h.2, ap (λ x. asked_in x own (announced m)) h.1))
 size_wrong whole_one P d z own m e h unlimited wants size (wrong within enough is) = wrong_as e Size whole_one P d z is (
-  elim (fewer own (length (bytes_open m))) [ inl all ↦ inr (inl (size all)) | inr few ↦ inl (refl, wants few) ]
-)
+    elim (fewer own (length (bytes_open m))) [ inl all ↦ inr (inl (size all)) | inr few ↦ inl (refl, wants few) ]
+    )
 size_wrong cut_one P d z own m e h unlimited wants size (cut within few is) = wrong_as e Cut cut_one P d z is (
-  elim (fewer own (length (bytes_open m))) [ inl all ↦ inr (refl, inl (size all)) | inr less ↦ inl ((λ e. cc), wants less) ]
-)
+    elim (fewer own (length (bytes_open m))) [ inl all ↦ inr (refl, inl (size all)) | inr less ↦ inl ((λ e. cc), wants less) ]
+    )
 size_wrong cut_one P d z own m e h unlimited wants size (wrong within enough is) =
     absurd (omega (arith, enough, h.2, ap (λ x. asked_in x own (announced m)) h.1))
 
@@ -136,8 +136,13 @@ module _ {kind : Container} {w c : ℕ} {P : Piece} {d : ℕ} {z : List ℕ} {ar
       let less : size < w = elim (fewer w size) [ inl h ↦ absurd (never (inl h)) | inr h ↦ h ] in
       size_wrong around P d z size m2 e (past_around past around x.is_around) (past_unlimited past x.unlimited)
       (λ few. want (inr (size, bytes_open m2, fits, past_bytes past, omega (arith, few, own_content kind w size never))))
-      (λ all. (kind, w, bytes_open m, is_container,
-      content_small (size, bytes_open m2, fits, past_bytes past, (all, less, (λ h. never (inr (ap is_list h.0, h.1))))))) err
+      (λ all. (
+        kind,
+        w,
+        bytes_open m,
+        is_container,
+        content_small (size, bytes_open m2, fits, past_bytes past, (all, less, (λ h. never (inr (ap is_list h.0, h.1))))),
+      )) err
   header_wrong e (no_count {size} {m = m2} fits took possible lacks) =
       let past = past_taken m (bytes_high_first w size) m2 took in
       lacks_wrong around P d z w m2 e (past_around past around x.is_around) (past_unlimited past x.unlimited)
@@ -173,8 +178,13 @@ module _ {kind : Container} {w c : ℕ} {P : Piece} {d : ℕ} {z : List ℕ} {ar
       let past = past_taken m (bytes_high_first w h.size ++ bytes_high_first w n) m2 h.took in
       let unlimited = past_unlimited past x.unlimited in
       size_wrong around P d z content m2 e (past_around past around x.is_around) unlimited
-      (λ less. want (inr (h.size, bytes_high_first w n ++ bytes_open m2, h.fits, head_is n content m2 h,
-      announces n content h.size (bytes_open m2) h.counts less)))
+      (λ less. want (inr (
+        h.size,
+        bytes_high_first w n ++ bytes_open m2,
+        h.fits,
+        head_is n content m2 h,
+        announces n content h.size (bytes_open m2) h.counts less,
+      )))
       (λ all. absurd (room_there m2 content unlimited full.less all)) full.why
 
   unpaired : (n : ℕ) → (IsCount kind n → ⊥) → (kind ≡ map) × (HasPairs map n → ⊥)

@@ -1,6 +1,6 @@
 -- A fault of a primitive is shown by bytes (Part 1, section 1.6).
-use Rattle.std.proofs.Common.{◌≡◌, ℕ, ◌+◌, ◌<◌, ◌≤◌, ◌^◌, ◌⊎◌, inl, inr, Option, Some, None, List, [], ◌++◌, length}
-use Rattle.std.proofs.Common.{refl, sym, ap, ◌∙◌, subst, arith}
+use Rattle.std.proofs.Common.{◌≡◌, ℕ, inl, inr, Some, None, List}
+use Rattle.std.proofs.Common.{refl, subst}
 use Rattle.std.specs.Int.{bytes_high_first}
 use Rattle.amqp_model.specs.Term.{Primitive}
 use Rattle.amqp_model.specs.Constructors.{Format, fixed, variable, compound, unknown, format}

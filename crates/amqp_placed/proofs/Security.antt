@@ -1,5 +1,4 @@
 -- The composites of the security layer (Part 5, section 5.3.3).
-use Rattle.std.proofs.Common.{◌≡◌}
 use Rattle.amqp_wire.specs.declared.error.Error.{Error}
 use Rattle.amqp_lookahead.specs.Kinds.{binaries, strings, symbols}
 use Rattle.amqp_codec.specs.PrimitiveTypes.{ubyte_base}

@@ -1,5 +1,5 @@
 -- A fault of a field of several values is shown by bytes, where those of its values are (Part 1, section 1.4).
-use Rattle.std.proofs.Common.{◌≡◌, inr}
+use Rattle.std.proofs.Common.{inr}
 use Rattle.amqp_wire.specs.declared.error.Error.{Error}
 use Rattle.amqp_wire.specs.declared.error.Error.TheVariants.{EmptyMultiple}
 use Rattle.amqp_codec.specs.TermType.{TermType}

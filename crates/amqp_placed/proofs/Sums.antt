@@ -1,12 +1,9 @@
 -- Restricted types and sums of composites.
-use Rattle.std.proofs.Common.{◌≡◌, ℕ, zero, suc, inr, refl, sym, ap, ◌∙◌, subst}
+use Rattle.std.proofs.Common.{ℕ, zero, suc}
 use Rattle.amqp_wire.specs.declared.error.Error.{Error}
 use Rattle.amqp_wire.specs.declared.error.Error.TheVariants.{UnknownText, UnknownNumber}
 use Rattle.amqp_lengths.specs.Stands.{Piece, Around, IsWhole, IsWrong}
-use Rattle.amqp_decoder.specs.State.{State, Has}
-use Rattle.amqp_decoder.specs.Places.{Located}
 use Rattle.amqp_codec.specs.PrimitiveTypes.{Base}
-use Rattle.amqp_codec.specs.Members.{MemberFault}
 use Rattle.amqp_sums.specs.Restricted.{IsUnknownError, RestrictedFault, no_primitive, of_no_value}
 use Rattle.amqp_sums.specs.Choices.{Choices, no_more, member, SumOf, sum_of, faults_at, members_of}
 use Rattle.amqp_sums.proofs.SumMembers.{are_members}

@@ -8,7 +8,7 @@ use Rattle.amqp_codec.specs.Faults.{Faults}
 use Rattle.amqp_kinds.specs.declared.kind.Kind.{Kind}
 use Rattle.amqp_kinds.specs.declared.kind.Kind.TheVariants as kind
 use Rattle.amqp_kinds.specs.Kinds.{kind_at}
-use Rattle.amqp_kinds.specs.KindReading.{KindFault, no_value, of_kind, LevelFault}
+use Rattle.amqp_kinds.specs.KindReading.{no_value, of_kind, LevelFault}
 use Rattle.amqp_values.specs.Levels.{value_with, faults_of, faults_at}
 use Rattle.amqp_values.specs.ValueMembers.{ValueMeans}
 use Rattle.amqp_simple_values.specs.SimpleType.{never_simple}

@@ -1,13 +1,13 @@
 -- A whole value, and one that is null.
-use Rattle.std.proofs.Common.{◌≡◌, ℕ, suc, ◌+◌, ◌<◌, inl, inr, Option, Some, None, unwrap_or, List, [], ◌∷◌, ◌++◌, length, refl, sym, ap, ◌∙◌}
+use Rattle.std.proofs.Common.{◌≡◌, ℕ, suc, Option, Some, None, List, [], ◌∷◌, ◌++◌, length, refl, sym, ap, ◌∙◌}
 use Rattle.std.proofs.Common.{subst, arith}
-use Rattle.amqp_model.specs.Term.{null, Container, list, map, array, Term, leaf, container, described, kept, barred, Descriptor}
+use Rattle.amqp_model.specs.Term.{null, list, map, array, Term, leaf, container, described, kept, barred, Descriptor}
 use Rattle.amqp_model.specs.Constructors.{format}
 use Rattle.amqp_model.specs.Spelling.{PrimitiveData, IsDataOf}
 use Rattle.amqp_lookahead.specs.Kinds.{nulls, codes_of}
 use Rattle.amqp_lookahead.proofs.KindsOfCodes.{kind_data, one_code}
 use Rattle.amqp_lengths.specs.Fronts.{Behind}
-use Rattle.amqp_lengths.specs.Stands.{Piece, a_value, an_item, an_element, an_end, AnyTerm, AnyData, IsOwn, IsWhole, IsAbsent}
+use Rattle.amqp_lengths.specs.Stands.{Piece, a_value, an_item, AnyTerm, AnyData, IsOwn, IsWhole}
 use Rattle.amqp_decoder.specs.State.{State, after_value, weight_at}
 use Rattle.amqp_decoder.specs.Reading.{IsFirst}
 use Rattle.amqp_decoder.specs.Primitives.{standing, SpellsAs, Stands, ReadsValue, Means}

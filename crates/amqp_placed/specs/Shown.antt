@@ -1,5 +1,5 @@
 -- What has to be shown of the parts of a type.
-use Rattle.std.specs.Prelude.{◌≡◌, ℕ}
+use Rattle.std.specs.Prelude.{ℕ}
 use Rattle.amqp_model.specs.Term.{Term}
 use Rattle.amqp_wire.specs.declared.error.Error.{Error}
 use Rattle.amqp_wire.specs.declared.error.Error.TheVariants.{Cut, UnknownCode, FloatCode, Size, Depth, ZeroWidthItems, NonAscii}
