@@ -1,5 +1,6 @@
 -- The constructor that an array's items share (Part 1, section 1.2.4): its errors, and the level of what stands under it.
-use Rattle.std.proofs.Common.{◌≡◌, ℕ, suc, arith, leb, ◌⊎◌, inl, inr, Bool, true, false, cond, eqb, nat_lt, ◌||◌, List, [], ◌∷◌, length, refl, ap, subst}
+use Rattle.std.proofs.Common.{◌≡◌, ℕ, suc, arith, leb, ◌⊎◌, inl, inr, Bool, true, false, cond, eqb, nat_lt, ◌||◌, List, [], ◌∷◌, length}
+use Rattle.std.proofs.Common.{refl, ap, subst}
 use Rattle.std.proofs.lemmas.Bool.{eqb-true, lt-ltb}
 use Rattle.amqp_model.specs.Term.{Descriptor}
 use Rattle.amqp_model.specs.Constructors.{Format, fixed, variable, compound, unknown, format}
@@ -49,7 +50,8 @@ data_not unknown m e lacks h = lacks
 
 -- the error for a code, where another kind is a bad descriptor
 kind_not : (s t u v : Bool) (c : ℕ)
-    → IsOfNoConstructor (other_kind (cond s (FloatCode c) (cond t (FloatCode c) (cond u (WrongType c) (cond v (WrongType c) (UnknownCode c))))))
+    → IsOfNoConstructor (other_kind (cond s (FloatCode c) (cond t (FloatCode c) (cond u (WrongType c) (cond v (WrongType c)
+    (UnknownCode c))))))
     → ⊥
 kind_not true t u v c h = h
 kind_not false true u v c h = h
@@ -78,7 +80,8 @@ constructor_not m e (no_code ds own m2 marks took lacks) h = lacks_not 1 m2 e la
 constructor_not m e (no_mark ds m2 t fault) h = descriptor_not m2 e fault h
 constructor_not m e (too_many ds m2 t many is) h = subst IsOfNoConstructor is h
 constructor_not m e (no_known_code ds c m2 t some none is) h =
-    unknown_not (eqb c 0x72) (eqb c 0x82) (eqb c 0) (is_known (format c)) c (not_zero c some) (not_known (format c) none) (subst IsOfNoConstructor is h)
+    unknown_not (eqb c 0x72) (eqb c 0x82) (eqb c 0) (is_known (format c)) c (not_zero c some) (not_known (format c) none)
+    (subst IsOfNoConstructor is h)
   where
     not_so : (t : Bool) → (t ≡ true → ⊥) → t ≡ false
     not_so true h = absurd (h refl)

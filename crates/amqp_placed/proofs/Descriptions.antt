@@ -19,7 +19,8 @@ use Rattle.amqp_decoder.specs.Rooms.{HasFlatItems}
 use Rattle.amqp_decoder.specs.Reading.{IsFirst, ReadsCode}
 use Rattle.amqp_decoder.specs.Described as described
 use Rattle.amqp_decoder.specs.Described.{behind, in_described, OpensDescribed, TakesPlace, DescribedFault, not_begun, other_code, too_deep}
-use Rattle.amqp_decoder.specs.Described.{other_kind, IsDescriptorKind, DescriptorFault, no_code, no_kind, no_data, non_ascii, open_left, one_of_left}
+use Rattle.amqp_decoder.specs.Described.{other_kind, IsDescriptorKind, DescriptorFault, no_code, no_kind, no_data, non_ascii, open_left}
+use Rattle.amqp_decoder.specs.Described.{one_of_left}
 use Rattle.amqp_decoder.specs.Described.{not_open, nameless, not_described, no_descriptor, no_member}
 use Rattle.amqp_decoder.specs.Places.{Located, At}
 use Rattle.amqp_decoder.proofs.Rooms.{room_in_described}
@@ -154,7 +155,8 @@ other_shows st m m' D f P d around h code took error is =
     by_shared (Some ([], s)) o own first names = absurd names
     by_shared (Some (x ∷ ds, s)) o (n, i, p, known) first names =
         here_shows st f P d around (omega (arith, is, past_length past, ap length first.0))
-        (wrong_as f.error WrongDescriptor around P d (bytes_open st) error (subst (λ Q. IsDescriptor Q (bytes_open st)) (sym p) (λ none. cc)))
+        (wrong_as f.error WrongDescriptor around P d (bytes_open st) error (subst (λ Q. IsDescriptor Q (bytes_open st)) (sym p)
+        (λ none. cc)))
 
 -- A described value that isn't opened.
 pub unopened_shown : (st : State) (f : Located) → At open_left st f → IsShown st f
@@ -223,7 +225,8 @@ described_shown st inner D f o shown P d around h =
     let past0 = past_code st 0 o.coded o.begun in
     let past = past_both o.begun.own t.own st o.coded o.named past0 (past_taken o.coded t.own o.named t.took) in
     let bytes : bytes_open inner ≡ bytes_open o.named = ap bytes_open o.opened in
-    let whole : bytes_open st ≡ (o.begun.own ++ t.own) ++ bytes_open inner = past_bytes past ∙ ap (λ v. (o.begun.own ++ t.own) ++ v) (sym bytes) in
+    let whole : bytes_open st ≡ (o.begun.own ++ t.own) ++ bytes_open inner = past_bytes past
+    ∙ ap (λ v. (o.begun.own ++ t.own) ++ v) (sym bytes) in
     let same : o.coded.top.shared ≡ st.top.shared = ap (λ (x : State). x.top.shared) o.begun.moved in
     let names : described.IsDescriptor st.top.shared D t.own = subst (λ s. described.IsDescriptor s D t.own) same t.descriptor in
     let shared : inner.top.shared ≡ behind st.top.shared =

@@ -50,7 +50,8 @@ pub close_wrong : (place : Place) (st : State) (l : ℕ) (e : Error) (P : Piece)
     → Faces st P d around → CloseFault place st e → IsWrong e around P d (bytes_open st)
 close_wrong place st l e P d around bound h (not_at_end fault) = end_wrong place st e P d around h fault
 close_wrong place st l e P d around bound h (bytes_left_over open_ none some err) =
-    over_wrong st l e P d around bound (λ empty. some (bound ∙ ap Some empty)) (next_end st.top.items st.top.shared P none h.next) h.is_around err
+    over_wrong st l e P d around bound (λ empty. some (bound ∙ ap Some empty))
+    (next_end st.top.items st.top.shared P none h.next) h.is_around err
 
 -- A container that isn't closed where its size bounds it.
 pub close_shown : (place : Place) (st : State) (l : ℕ) (f : Located) → bound_of st.top ≡ Some l → Here (CloseFault place) st f

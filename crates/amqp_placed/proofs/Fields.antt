@@ -24,7 +24,8 @@ use Rattle.amqp_placed.proofs.Wholes.{null_next}
 absent_wrong : (k : FieldRule) (e : Error) (around : Around) (P : Piece) (d : ℕ) (z : List ℕ) → absence k ≡ Some e → IsAbsent P z
     → IsWrong e around P d z
 absent_wrong Mandatory e around P d z is h = wrong_as e Missing around P d z (sym (ap (λ o. unwrap_or o Missing) is)) h
-absent_wrong MandatoryMultiple e around P d z is h = wrong_as e EmptyMultiple around P d z (sym (ap (λ o. unwrap_or o EmptyMultiple) is)) (inl h)
+absent_wrong MandatoryMultiple e around P d z is h = wrong_as e EmptyMultiple around P d z (sym (ap
+    (λ o. unwrap_or o EmptyMultiple) is)) (inl h)
 absent_wrong Optional e around P d z is h = absurd (cc)
 absent_wrong Default e around P d z is h = absurd (cc)
 absent_wrong Multiple e around P d z is h = absurd (cc)
@@ -39,7 +40,8 @@ module _ (e : Error) where
   field_shown (field get x fs) (suc i) shown st f is h = field_shown fs i shown.1 st f is h
 
   -- an item of the list
-  item_shows : {V : Type 0} (fs : Fields V) (i n : ℕ) → FieldsShown e fs → (st : State) (f : Located) (d : ℕ) (around : Around) → f.error ≡ e
+  item_shows : {V : Type 0} (fs : Fields V) (i n : ℕ) → FieldsShown e fs → (st : State) (f : Located) (d : ℕ) (around : Around)
+      → f.error ≡ e
       → st.top.shared ≡ None → Faces st (an_item list n i) d around → ItemFault fs i st f → Shows st f (an_item list n i) d around
   item_shows fs i n shown st f d around is own h (no_item fault) = begin_shown st f fault (an_item list n i) d around h
   item_shows fs i n shown st f d around is own h (null_item {b} value rule place) =

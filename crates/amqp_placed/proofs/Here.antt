@@ -10,7 +10,8 @@ use Rattle.amqp_wire.specs.declared.error.Error.TheVariants.{Cut, Size, Missing}
 use Rattle.amqp_wire.specs.Codes.{refusal_of}
 use Rattle.amqp_lengths.specs.Announced.{Wants}
 use Rattle.amqp_lengths.specs.Stands.{Piece, a_value, an_item, an_end, Around, unbounded, whole_one}
-use Rattle.amqp_lengths.specs.Stands.{cut_one, outermost, IsOwn, IsUnder, IsEnd, no_step, Begins, IsWanting, HasCode, HasUnknown, IsAbsent, IsWrong, StandsFrom}
+use Rattle.amqp_lengths.specs.Stands.{cut_one, outermost, IsOwn, IsUnder, IsEnd, no_step, Begins, IsWanting, HasCode, HasUnknown}
+use Rattle.amqp_lengths.specs.Stands.{IsAbsent, IsWrong, StandsFrom}
 use Rattle.amqp_decoder.specs.State.{State, Has, bound_of, counted_in, after_look}
 use Rattle.amqp_decoder.specs.Steps.{Lacks, cut_open, past_limit, cut_inside, too_long}
 use Rattle.amqp_decoder.specs.Rooms.{HasFlatItems}
@@ -33,7 +34,8 @@ pub wrong_as : (e x : Error) (around : Around) (P : Piece) (d : ℕ) (z : List �
 wrong_as e x around P d z is h = subst (λ y. IsWrong y around P d z) (sym is) h
 
 -- it stands where this begins
-pub here_from : (around : Around) (P : Piece) (d : ℕ) (z : List ℕ) (e : Error) → IsWrong e around P d z → StandsFrom around P d z e (length z)
+pub here_from : (around : Around) (P : Piece) (d : ℕ) (z : List ℕ) (e : Error) → IsWrong e around P d z
+    → StandsFrom around P d z e (length z)
 here_from around P d z e h = record {
   piece = P;
   depth = d;
@@ -76,7 +78,15 @@ lacks_wrong cut_one P d z n st e h unlimited wants (cut_inside {l} some less few
     fewer (inr few) = omega (arith, ap (λ x. length (up_to x st.rest)) some, length-take l st.rest, few)
 lacks_wrong unbounded P d z n st e h unlimited wants (too_long some less all is) = absurd (none_some (sym h.0 ∙ some))
 lacks_wrong whole_one P d z n st e h unlimited wants (too_long {l} some less all is) =
-    wrong_as e Size whole_one P d z is (inl (refl, wants (omega (arith, ap (λ x. length (up_to x st.rest)) some, length-take l st.rest, less))))
+    wrong_as e Size whole_one P d z is (inl (
+      refl,
+      wants (omega (
+        arith,
+        ap (λ x. length (up_to x st.rest)) some,
+        length-take l st.rest,
+        less,
+      )),
+    ))
 lacks_wrong cut_one P d z n st e h unlimited wants (too_long some less all is) = absurd (omega (arith, h.2, all))
 
 -- What has a constructor of its own, or shares one.
@@ -182,13 +192,15 @@ begin_wrong st e P d around h (no_code item own lacks) =
     no_bytes : (l : List ℕ) → length l < 1 → l ≡ []
     no_bytes [] few = refl
     no_bytes (x ∷ l) few = absurd (omega (arith, few))
-begin_wrong st e P d around h (one_too_many {c} {m} code full is) = absurd (full (subst (λ o. Has o (counted_in st.top.shared c)) (sym h.uncounted) tt))
+begin_wrong st e P d around h (one_too_many {c} {m} code full is) = absurd (full (subst (λ o. Has o (counted_in st.top.shared c))
+    (sym h.uncounted) tt))
 
 pub begin_shown : (st : State) (f : Located) → Here BeginFault st f → IsShown st f
 begin_shown st f (fault, is) P d around h = here_shows st f P d around is (begin_wrong st f.error P d around h fault)
 
 -- A value that can hold others isn't at a greater depth than it may be.
-pub deep_here : (st : State) (P : Piece) (d : ℕ) (around : Around) → Faces st P d around → Has st.top.items 1 → (HasFlatItems st.top.shared → ⊥)
+pub deep_here : (st : State) (P : Piece) (d : ℕ) (around : Around) → Faces st P d around → Has st.top.items 1
+    → (HasFlatItems st.top.shared → ⊥)
     → length st.saved ≤ d
 deep_here st P d around h item uneven = go h.deep
   where

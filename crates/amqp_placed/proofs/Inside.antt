@@ -7,8 +7,10 @@ use Rattle.amqp_model.specs.Term.{Container, list, map, array, Term, Descriptor}
 use Rattle.amqp_model.specs.Constructors.{compound, format}
 use Rattle.amqp_lengths.specs.Fronts.{Behind}
 use Rattle.amqp_lengths.specs.Lengths as lengths
-use Rattle.amqp_lengths.specs.Stands.{Piece, an_item, an_end, Around, unbounded, whole_one, cut_one, outermost, AnyTerm, Step, to_item, to_end}
-use Rattle.amqp_decoder.specs.State.{Open, State, Has, lower, bound_of, bytes_left, announced, after_value, weight_at, items_of, in_container}
+use Rattle.amqp_lengths.specs.Stands.{Piece, an_item, an_end, Around, unbounded, whole_one, cut_one, outermost, AnyTerm, Step, to_item}
+use Rattle.amqp_lengths.specs.Stands.{to_end}
+use Rattle.amqp_decoder.specs.State.{Open, State, Has, lower, bound_of, bytes_left, announced, after_value, weight_at, items_of}
+use Rattle.amqp_decoder.specs.State.{in_container}
 use Rattle.amqp_decoder.specs.Primitives.{standing, SpellsAs}
 use Rattle.amqp_decoder.specs.Containers.{place_of, Opens}
 use Rattle.amqp_decoder.specs.Items.{Row}

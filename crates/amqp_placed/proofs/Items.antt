@@ -34,7 +34,8 @@ pub record Taken (st b : State) (n : ℕ) : Type 0 where
 none_taken : (st b : State) → b ≡ st → Taken st b 0
 none_taken st b is = record { terms = []; bytes = []; row = (refl, is); long = refl }
 
-one_taken : {A : Type 0} (means : Standing → Term → A → Type 0) (st mid b : State) (v : A) (n : ℕ) → ReadsValue means st v mid → Taken mid b n
+one_taken : {A : Type 0} (means : Standing → Term → A → Type 0) (st mid b : State) (v : A) (n : ℕ) → ReadsValue means st v mid
+    → Taken mid b n
     → Taken st b (suc n)
 one_taken means st mid b v n h t = record {
   terms = h.term ∷ t.terms;

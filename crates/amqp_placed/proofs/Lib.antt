@@ -17,6 +17,7 @@ mod Sums
 mod Described
 mod Constructors
 mod Arrays
+mod Elements
 mod Several
 mod Values
 mod Security

@@ -18,7 +18,8 @@ outermost_of whole_one b c = refl
 outermost_of cut_one b c = refl
 
 -- what stands one step further in
-pub onward : (around entered : Around) (P Q : Piece) (d k : ℕ) (z y : List ℕ) (e : Error) (left behind : ℕ) → Step P d z Q k y entered behind
+pub onward : (around entered : Around) (P Q : Piece) (d k : ℕ) (z y : List ℕ) (e : Error) (left behind : ℕ)
+    → Step P d z Q k y entered behind
     → StandsFrom (outermost around entered) Q k y e left → StandsFrom around P d z e (left + behind)
 onward around entered P Q d k z y e left behind step h = record {
   piece = h.piece;
@@ -48,8 +49,10 @@ next_from around P Q d k z y e left step h =
     subst (StandsFrom around P d z e) same
     (onward around unbounded P Q d k z y e left 0 step (subst (λ x. StandsFrom x Q k y e left) (sym (outermost_none around)) h))
 
-pub next_shows : (st m : State) (f : Located) (around : Around) (P Q : Piece) (d k own : ℕ) → length (bytes_open st) ≡ own + length (bytes_open m)
-    → length st.rest ≡ own + length m.rest → Step P d (bytes_open st) Q k (bytes_open m) unbounded 0 → Shows m f Q k around → Shows st f P d around
+pub next_shows : (st m : State) (f : Located) (around : Around) (P Q : Piece) (d k own : ℕ)
+    → length (bytes_open st) ≡ own + length (bytes_open m)
+    → length st.rest ≡ own + length m.rest → Step P d (bytes_open st) Q k (bytes_open m) unbounded 0 → Shows m f Q k around
+    → Shows st f P d around
 next_shows st m f around P Q d k own bytes rest step h =
     onward_shows st m f around unbounded P Q d k 0 (omega (arith, bytes, rest)) step
     (subst (λ x. Shows m f Q k x) (sym (outermost_none around)) h)

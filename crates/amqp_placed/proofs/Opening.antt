@@ -19,7 +19,8 @@ use Rattle.amqp_decoder.specs.Rooms.{HasFlatItems}
 use Rattle.amqp_decoder.specs.Arrays.{IsFlat}
 use Rattle.amqp_decoder.specs.Reading.{IsFirst, ReadsCode}
 use Rattle.amqp_decoder.specs.Containers.{is_list, IsCount, Counts, ReadsHeader, HeaderFault, no_size, impossible, no_count}
-use Rattle.amqp_decoder.specs.Containers.{no_content, EnterFault, no_header, odd_count, no_room, too_deep, OpenFault, not_begun, wrong_code, no_data}
+use Rattle.amqp_decoder.specs.Containers.{no_content, EnterFault, no_header, odd_count, no_room, too_deep, OpenFault, not_begun}
+use Rattle.amqp_decoder.specs.Containers.{wrong_code, no_data}
 use Rattle.amqp_decoder.specs.Places.{Located, Here}
 use Rattle.amqp_placed.specs.Facing.{up_to, bytes_open, IsAround, Faces, IsShown}
 use Rattle.amqp_placed.proofs.Past.{past_code, past_taken, past_bytes, past_around, past_unlimited}
@@ -95,7 +96,11 @@ entering kind w c P d around st m h code is =
       is_around = past_around past around h.is_around;
       unlimited = past_unlimited past h.unlimited;
       nesting = past.nesting ∙ h.nesting;
-      deep = omega (arith, deep_here st P d around h code.item (not_flat st.top.shared c w code.own kind code.first is), ap length past.saved);
+      deep = omega (
+        arith,
+        deep_here st P d around h code.item (not_flat st.top.shared c w code.own kind code.first is),
+        ap length past.saved,
+      );
     }
 
 wide_enough : (w n : ℕ) → 0 < n → n < 256 ^ w → 0 < w
@@ -121,9 +126,30 @@ module _ {kind : Container} {w c : ℕ} {P : Piece} {d : ℕ} {z : List ℕ} {ar
       let behind = bytes_high_first w n ++ y in
       by_kind kind refl fits behind is
     where
-      by_kind : (j : Container) → kind ≡ j → 0 < 256 ^ w → (behind : List ℕ) → bytes_open m ≡ bytes_high_first w 0 ++ behind → HasWrongSize P z
-      by_kind list same fits behind is' =
-          (kind, w, bytes_open m, is_container, content_counted same (0, bytes_high_first w n ++ y, fits, is, (refl, (n, y, few, refl, some))))
+      by_kind : (j : Container) → kind ≡ j → 0 < 256 ^ w → (behind : List ℕ) → bytes_open m ≡ bytes_high_first w 0 ++ behind
+          → HasWrongSize P z
+      by_kind list same fits behind is' = (
+        kind,
+        w,
+        bytes_open m,
+        is_container,
+        content_counted same (
+          0,
+          bytes_high_first w n ++ y,
+          fits,
+          is,
+          (
+            refl,
+            (
+              n,
+              y,
+              few,
+              refl,
+              some,
+            ),
+          ),
+        ),
+      )
       by_kind map same fits behind is' =
           (kind, w, bytes_open m, is_container, content_small (0, behind, fits, is', (omega arith, wide_enough w n some few, (λ h. cc))))
       by_kind array same fits behind is' =
@@ -208,7 +234,8 @@ module _ {kind : Container} {w c : ℕ} {P : Piece} {d : ℕ} {z : List ℕ} {ar
         take content (bytes_open m2),
         k.inner,
         subst (λ j. IsContainer P z j w (bytes_open m)) same is_container,
-        subst (λ j. Rattle.amqp_lengths.specs.Stands.Contains j w n (take content (bytes_open m2)) (bytes_open m) k.inner k.behind) same k.contains,
+        subst (λ j. Rattle.amqp_lengths.specs.Stands.Contains j w n (take content (bytes_open m2))
+            (bytes_open m) k.inner k.behind) same k.contains,
         uneven,
       )
   enter_wrong e other (no_room {n} {content} {m = m2} h count full) = no_room_wrong e n content m2 h full
@@ -216,7 +243,8 @@ module _ {kind : Container} {w c : ℕ} {P : Piece} {d : ℕ} {z : List ℕ} {ar
       wrong_as e Depth around P d z (is ∙ ap depth_error x.nesting)
       (inl (inr (inr (inl (kind, w, bytes_open m, is_container, other, omega (arith, deep, x.nesting, x.deep))))))
 
-pub open_wrong : (kind : Container) → (kind ≡ array → ⊥) → (st : State) (e : Error) (P : Piece) (d : ℕ) (around : Around) → Faces st P d around
+pub open_wrong : (kind : Container) → (kind ≡ array → ⊥) → (st : State) (e : Error) (P : Piece) (d : ℕ) (around : Around)
+    → Faces st P d around
     → OpenFault kind st e → IsWrong e around P d (bytes_open st)
 open_wrong kind other st e P d around h (not_begun fault) = begin_wrong st e P d around h fault
 open_wrong kind other st e P d around h (wrong_code {c} {m} code differs is) =

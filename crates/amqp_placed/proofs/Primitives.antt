@@ -68,7 +68,8 @@ no_value_wrong c k around P d z b m m' kind under took whole none =
 pub primitive_wrong : (k : ℕ) (st : State) (e : Error) (P : Piece) (d : ℕ) (around : Around) → Faces st P d around → PrimitiveFault k st e
     → IsWrong e around P d (bytes_open st)
 primitive_wrong k st e P d around h (not_begun fault) = begin_wrong st e P d around h fault
-primitive_wrong k st e P d around h (wrong_code {c} {m} code other is) = wrong_as e (refusal_of c) around P d (bytes_open st) is (other_code_wrong st c m P d around h code)
+primitive_wrong k st e P d around h (wrong_code {c} {m} code other is) = wrong_as e (refusal_of c) around P d (bytes_open st) is
+    (other_code_wrong st c m P d around h code)
 primitive_wrong k st e P d around h (no_data {c} {m} code kind lacks) =
     let past = past_code st c m code in
     data_wrong (format c) around P d (bytes_open st) m e (past_around past around h.is_around) (past_unlimited past h.unlimited)

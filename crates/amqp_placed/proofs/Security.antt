@@ -16,11 +16,20 @@ use Rattle.amqp_placed.proofs.Several.{mandatory_shown}
 
 module _ (e : Error) where
   pub mechanisms_shown : IsOfNoConstructor e → AreShown e (composite sasl_mechanisms).faults.fault
-  mechanisms_shown other = composite_shown e sasl_mechanisms (mandatory_shown e other symbol_type (λ st f is. primitive_shown symbols st f), tt)
+  mechanisms_shown other = composite_shown e sasl_mechanisms (
+    mandatory_shown e other symbol_type
+        (λ st f is. primitive_shown symbols st f),
+    tt,
+  )
 
   pub init_shown : AreShown e (composite sasl_init).faults.fault
-  init_shown = composite_shown e sasl_init
-      ((λ st f is. primitive_shown symbols st f), ((λ st f is. primitive_shown binaries st f), ((λ st f is. primitive_shown strings st f), tt)))
+  init_shown = composite_shown e sasl_init (
+    (λ st f is. primitive_shown symbols st f),
+    (
+      (λ st f is. primitive_shown binaries st f),
+      ((λ st f is. primitive_shown strings st f), tt),
+    ),
+  )
 
   pub challenge_shown : AreShown e (composite sasl_challenge).faults.fault
   challenge_shown = composite_shown e sasl_challenge ((λ st f is. primitive_shown binaries st f), tt)

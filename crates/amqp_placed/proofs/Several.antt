@@ -10,7 +10,7 @@ use Rattle.amqp_placed.specs.Shown.{IsOfNoConstructor}
 use Rattle.amqp_placed.proofs.Here.{wrong_as, here_shows, next_left}
 use Rattle.amqp_placed.proofs.Wholes.{whole_next}
 use Rattle.amqp_placed.proofs.Formers.{either_shown}
-use Rattle.amqp_placed.proofs.Arrays.{array_shown}
+use Rattle.amqp_placed.proofs.Elements.{array_shown}
 
 module _ (e : Error) (other : IsOfNoConstructor e) {T : Type 0} (u : TermType T) (shown : AreShown e u.faults.fault) where
   pub multiple_shown : AreShown e (multiple_faults u).fault

@@ -17,7 +17,7 @@ use Rattle.amqp_placed.specs.Shown.{IsOfNoConstructor}
 use Rattle.amqp_placed.proofs.Here.{wrong_as, here_shows, begin_shown, peeked_shown}
 use Rattle.amqp_placed.proofs.Primitives.{primitive_shown}
 use Rattle.amqp_placed.proofs.Items.{items_shown, map_shown}
-use Rattle.amqp_placed.proofs.Arrays.{array_shown}
+use Rattle.amqp_placed.proofs.Elements.{array_shown}
 use Rattle.amqp_placed.proofs.Described.{described_value_shown}
 
 module _ (e : Error) (other : IsOfNoConstructor e) (new : e ≡ DuplicateKey → ⊥) where

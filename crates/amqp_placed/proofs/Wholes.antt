@@ -42,7 +42,8 @@ whole_shared (Some (ds, c)) P t s z y (n, i, p, known) data_ is =
     subst (λ Q. IsWhole Q z) (sym p) (y, record { front = s; is = is; spelled = bare_data t ds c s data_ })
 
 -- A term stands next.
-pub whole_next : (st : State) (P : Piece) (s : List ℕ) (t : Term) → Stands st s t → IsUnderShared st.top.shared P → IsWhole P (bytes_open st)
+pub whole_next : (st : State) (P : Piece) (s : List ℕ) (t : Term) → Stands st s t → IsUnderShared st.top.shared P
+    → IsWhole P (bytes_open st)
 whole_next st P s t h next =
     whole_shared st.top.shared P t s (bytes_open st) (bytes_open (after_value (length s) (weight_at st t) st)) next h.spelled
     (past_bytes (past_value st s t h))

@@ -69,7 +69,8 @@ pub fn primitives()
 
 /// Each fault of a restricted type is shown by bytes: a number or a text of no value is a whole value.
 pub fn restricted_types<A, V>()
-    ensures { (e unknown : Error) (base : Base A) (table : V → A) → IsUnknownError unknown → AreShown e (RestrictedFault base unknown table) }
+    ensures { (e unknown : Error) (base : Base A) (table : V → A) → IsUnknownError unknown
+        → AreShown e (RestrictedFault base unknown table) }
 {}
 
 /// The faults of an optional, boxed or counted value by an error are shown by bytes, if those of the value are; so are those of a value
@@ -82,10 +83,11 @@ pub fn values_held<T: DeserializeTerm>()
     ensures list { (e : Error) → AreShown e T.term.faults.fault → AreShown e ⟦<Vec<T> as DeserializeTerm>⟧.term.faults.fault }
 {}
 
-/// The faults of an array of values by an error are shown by bytes, if those of the values are (Part 1, section 1.6.24); except by an error
-/// that the constructor of its items may have (`IsOfNoConstructor`), of which the decoder's contract says too little.
+/// The faults of an array of values by an error are shown by bytes, if those of the values are (Part 1, section 1.6.24). The errors of the
+/// constructor that the items share are left out (`IsOfNoConstructor`): what the decoder says of its faults doesn't bound its descriptors.
 pub fn arrays<T: DeserializeTerm>()
-    ensures { (e : Error) → IsOfNoConstructor e → AreShown e T.term.faults.fault → AreShown e ⟦<Array<T> as DeserializeTerm>⟧.term.faults.fault }
+    ensures { (e : Error) → IsOfNoConstructor e → AreShown e T.term.faults.fault
+        → AreShown e ⟦<Array<T> as DeserializeTerm>⟧.term.faults.fault }
 {}
 
 /// The faults of a field of several values by an error are shown by bytes, if those of one value are (Part 1, section 1.4): of any number,
@@ -99,7 +101,8 @@ pub fn fields_of_several<T: DeserializeTerm>()
 /// share.
 pub fn values()
     ensures value { (e : Error) → IsOfNoConstructor e → (e ≡ DuplicateKey → ⊥) → AreShown e ⟦<Value as DeserializeTerm>⟧.term.faults.fault }
-    ensures map { (e : Error) → IsOfNoConstructor e → (e ≡ DuplicateKey → ⊥) → AreShown e ⟦<ValueMap as DeserializeTerm>⟧.term.faults.fault }
+    ensures map { (e : Error) → IsOfNoConstructor e → (e ≡ DuplicateKey → ⊥)
+        → AreShown e ⟦<ValueMap as DeserializeTerm>⟧.term.faults.fault }
     ensures simple { (e : Error) → IsOfNoConstructor e → (e ≡ DuplicateKey → ⊥)
         → AreShown e ⟦<SimpleValue as DeserializeTerm>⟧.term.faults.fault }
 {}
@@ -144,14 +147,15 @@ pub fn sums<S: Sum>()
     ensures { (e : Error) → ChoicesShown e S.sum.choices → AreShown e (sum_of S.sum).faults.fault }
 {}
 
-/// Each fault of a list or map that isn't opened is shown by bytes (Part 1, sections 1.6.22 and 1.6.23). So is one that stands in it, behind
+/// Each fault of a list or map that isn't opened is shown by bytes (Part 1, sections 1.6.22 and 1.6.23). So is one that stands in it, after
 /// some items, and one at its end.
 pub fn containers()
     ensures unopened { (e : Error) (kind : Container) → (kind ≡ array → ⊥) → AreShown e (Here (OpenFault kind)) }
     ensures inside { (kind : Container) → (kind ≡ array → ⊥) → (st first mid : State) (n : ℕ) (ts : List Term) (b : List ℕ) (f : Located)
         → Opens kind st n first → Row first ts b mid → length ts ≤ n → IsShown mid f → IsShown st f }
-    ensures unclosed { (kind : Container) → (kind ≡ array → ⊥) → (place : Place) (st first mid : State) (n : ℕ) (ts : List Term) (b : List ℕ)
-        (f : Located) → Opens kind st n first → Row first ts b mid → length ts ≤ n → Here (CloseFault place) mid f → IsShown st f }
+    ensures unclosed { (kind : Container) → (kind ≡ array → ⊥) → (place : Place) (st first mid : State) (n : ℕ) (ts : List Term)
+        (b : List ℕ) (f : Located) → Opens kind st n first → Row first ts b mid → length ts ≤ n → Here (CloseFault place) mid f
+        → IsShown st f }
 {}
 
 /// Each fault of a described value that isn't opened, or whose descriptor is another's, is shown by bytes (Part 1, section 1.5). So is one

@@ -1,4 +1,4 @@
-use Rattle.amqp_placed.proofs.Arrays.{array_shown}
+use Rattle.amqp_placed.proofs.Elements.{array_shown}
 use Rattle.amqp_placed.proofs.laws.arrays.Goals as goal
 
 pub returns : goal.returns
