@@ -77,7 +77,8 @@ content_shows st c w m0 n content m f P d around h code is header room shows =
     (shows (outermost around k.inner) begun)
 
 -- Why no array is opened, as far as its size and its count say.
-items_wrong : (st : State) (c w : ℕ) (m : State) (e : Error) (P : Piece) (d : ℕ) (around : Around) → Faces st P d around → ReadsCode st c m
+pub items_wrong : (st : State) (c w : ℕ) (m : State) (e : Error) (P : Piece) (d : ℕ) (around : Around) → Faces st P d around
+    → ReadsCode st c m
     → format c ≡ compound array w → OpenItemsFault w m e → IsWrong e around P d (bytes_open st)
 items_wrong st c w m e P d around h code is (no_header fault) = header_wrong (entering array w c P d around st m h code is) e fault
 items_wrong st c w m e P d around h code is (no_room n content m2 header full) =

@@ -1,5 +1,5 @@
 -- Described values: their descriptors, and what these describe (Part 1, sections 1.2 and 1.5).
-use Rattle.std.proofs.Common.{◌≡◌, ℕ, suc, ◌<◌, ◌≤◌, inl, inr, Bool, true, false, cond, Option, Some, None, unwrap_or}
+use Rattle.std.proofs.Common.{◌≡◌, ℕ, suc, ◌≤◌, inl, inr, Bool, true, false, cond, Option, Some, None, unwrap_or}
 use Rattle.std.proofs.Common.{List, [], ◌∷◌, ◌++◌, length, refl, sym, ap, ◌∙◌, subst, arith}
 use Rattle.std.proofs.lemmas.List.{length-append}
 use Rattle.amqp_model.specs.Term.{Primitive, Descriptor, name, symbol}
@@ -28,7 +28,7 @@ use Rattle.amqp_placed.specs.Facing.{bytes_open, IsAround, IsUnderShared, IsNext
 use Rattle.amqp_placed.proofs.Past.{Past, past_code, past_taken, past_both, past_bytes, past_length, past_around, past_unlimited}
 use Rattle.amqp_placed.proofs.Codes.{other_kind_wrong}
 use Rattle.amqp_placed.proofs.Primitives.{data_wrong, no_value_wrong}
-use Rattle.amqp_placed.proofs.Here.{wrong_as, deep_here, here_shows, lacks_wrong, next_left, begin_wrong, other_code_wrong}
+use Rattle.amqp_placed.proofs.Here.{no_bytes, wrong_as, deep_here, here_shows, lacks_wrong, next_left, begin_wrong, other_code_wrong}
 use Rattle.amqp_placed.proofs.Onward.{next_shows}
 
 own_marked : (P : Piece) (z y : List ℕ) → IsOwn P → z ≡ 0 ∷ y → IsMarked P z
@@ -92,14 +92,10 @@ symbol_names _ is = absurd (omega (is, arith))
 kind_fixed : (o : Option ℕ) (j k : ℕ) → o ≡ Some j → o ≡ Some k → j ≡ k
 kind_fixed o j k a b = ap (λ x. unwrap_or x 0) (sym a ∙ b)
 
-descriptor_wrong : (m : State) (e : Error) (d : ℕ) (around : Around) → IsAround around m → (bound_of m.top ≡ None → m.top.left ≡ None)
+pub descriptor_wrong : (m : State) (e : Error) (d : ℕ) (around : Around) → IsAround around m → (bound_of m.top ≡ None → m.top.left ≡ None)
     → DescriptorFault m e → IsWrong e around a_descriptor d (bytes_open m)
 descriptor_wrong m e d around h unlimited (no_code lacks) =
     lacks_wrong around a_descriptor d (bytes_open m) 1 m e h unlimited (λ few. inl (no_bytes (bytes_open m) few)) lacks
-  where
-    no_bytes : (l : List ℕ) → length l < 1 → l ≡ []
-    no_bytes [] few = refl
-    no_bytes (x ∷ l) few = absurd (omega (arith, few))
 descriptor_wrong m e d around h unlimited (no_kind {c} {m = m2} took other is) =
     let there : bytes_open m ≡ c ∷ bytes_open m2 = past_bytes (past_taken m (c ∷ []) m2 took) in
     wrong_as e (other_kind (refusal_of c)) around a_descriptor d (bytes_open m) is

@@ -89,6 +89,11 @@ lacks_wrong whole_one P d z n st e h unlimited wants (too_long {l} some less all
     ))
 lacks_wrong cut_one P d z n st e h unlimited wants (too_long some less all is) = absurd (omega (arith, h.2, all))
 
+-- fewer than one byte
+pub no_bytes : (l : List ℕ) → length l < 1 → l ≡ []
+no_bytes [] few = refl
+no_bytes (x ∷ l) few = absurd (omega (arith, few))
+
 -- What has a constructor of its own, or shares one.
 pub own_begins : (P : Piece) → IsOwn P → Begins P
 own_begins a_value own = tt
@@ -188,10 +193,6 @@ begin_wrong st e P d around h (no_code item own lacks) =
     let is_own : IsOwn P = subst (λ o. IsUnderShared o P) own (next_left st.top.items st.top.shared P item h.next) in
     lacks_wrong around P d (bytes_open st) 1 st e h.is_around h.unlimited
     (λ few. subst (IsWanting P) (sym (no_bytes (bytes_open st) few)) (own_wanting P is_own)) lacks
-  where
-    no_bytes : (l : List ℕ) → length l < 1 → l ≡ []
-    no_bytes [] few = refl
-    no_bytes (x ∷ l) few = absurd (omega (arith, few))
 begin_wrong st e P d around h (one_too_many {c} {m} code full is) = absurd (full (subst (λ o. Has o (counted_in st.top.shared c))
     (sym h.uncounted) tt))
 

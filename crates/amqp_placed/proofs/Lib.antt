@@ -18,6 +18,7 @@ mod Described
 mod Constructors
 mod Arrays
 mod Elements
+mod Bounds
 mod Several
 mod Values
 mod Security

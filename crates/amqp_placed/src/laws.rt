@@ -12,6 +12,7 @@ ghost use Rattle.amqp_decoder.specs.Items.{Row};
 ghost use Rattle.amqp_decoder.specs.Primitives.{PrimitiveFault};
 ghost use Rattle.amqp_decoder.specs.Containers.{Opens, OpenFault, CloseFault};
 ghost use Rattle.amqp_decoder.specs.Described.{OpensDescribed, open_left, one_of_left};
+ghost use Rattle.amqp_decoder.specs.Arrays.{array_left};
 ghost use Rattle.amqp_decoder.specs.Places.{Located, Here, At};
 ghost use Rattle.amqp_codec.specs.Reading.{IsGreatest, IsFaultyAt};
 ghost use Rattle.amqp_codec.specs.PrimitiveTypes.{Base};
@@ -20,6 +21,7 @@ ghost use Rattle.amqp_codec.specs.EitherMeaning.{EitherFault};
 ghost use Rattle.amqp_sums.specs.Restricted.{IsUnknownError, RestrictedFault};
 ghost use Rattle.amqp_sums.specs.Choices.{sum_of};
 ghost use Rattle.amqp_containers.specs.Several.{multiple_faults, mandatory_faults};
+ghost use Rattle.amqp_placed.specs.Bounds.{IsBounded};
 ghost use Rattle.amqp_placed.specs.Shown.{FieldsShown, ChoicesShown, IsOfNoConstructor};
 ghost use Rattle.amqp_placed.specs.Facing.{IsShown, AreShown};
 
@@ -156,6 +158,12 @@ pub fn containers()
     ensures unclosed { (kind : Container) → (kind ≡ array → ⊥) → (place : Place) (st first mid : State) (n : ℕ) (ts : List Term)
         (b : List ℕ) (f : Located) → Opens kind st n first → Row first ts b mid → length ts ≤ n → Here (CloseFault place) mid f
         → IsShown st f }
+{}
+
+/// Each fault of an array that isn't opened is shown by bytes, if the constructor that its items share has at most 128 descriptors, and the
+/// container around the array has room for them (Part 1, section 1.2.4). The decoder keeps to both, but its faults don't say so.
+pub fn unopened_arrays()
+    ensures { (st : State) (f : Located) (h : At array_left st f) → IsBounded st f.error h.0 → IsShown st f }
 {}
 
 /// Each fault of a described value that isn't opened, or whose descriptor is another's, is shown by bytes (Part 1, section 1.5). So is one
