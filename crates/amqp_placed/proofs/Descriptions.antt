@@ -31,7 +31,7 @@ use Rattle.amqp_placed.proofs.Primitives.{data_wrong, no_value_wrong}
 use Rattle.amqp_placed.proofs.Here.{no_bytes, wrong_as, deep_here, here_shows, lacks_wrong, next_left, begin_wrong, other_code_wrong}
 use Rattle.amqp_placed.proofs.Onward.{next_shows}
 
-own_marked : (P : Piece) (z y : List ℕ) → IsOwn P → z ≡ 0 ∷ y → IsMarked P z
+pub own_marked : (P : Piece) (z y : List ℕ) → IsOwn P → z ≡ 0 ∷ y → IsMarked P z
 own_marked a_value z y own is = (tt, (y, is))
 own_marked (an_item kind n i) z y own is = (tt, (y, is))
 own_marked _ z y own is = absurd own

@@ -110,7 +110,7 @@ own_code a_value c z y own is = (y, is)
 own_code (an_item kind n i) c z y own is = (y, is)
 own_code _ c z y own is = absurd own
 
-own_unknown : (P : Piece) (c : ℕ) (z y : List ℕ) → IsOwn P → z ≡ c ∷ y → (c ≡ 0 → ⊥) → (IsKnown (format c) → ⊥) → HasUnknown P z c
+pub own_unknown : (P : Piece) (c : ℕ) (z y : List ℕ) → IsOwn P → z ≡ c ∷ y → (c ≡ 0 → ⊥) → (IsKnown (format c) → ⊥) → HasUnknown P z c
 own_unknown a_value c z y own is some none = ((y, is), some, none)
 own_unknown (an_item kind n i) c z y own is some none = ((y, is), some, none)
 own_unknown _ c z y own is some none = absurd own

@@ -19,6 +19,9 @@ mod Constructors
 mod Arrays
 mod Elements
 mod Bounds
+mod Found
+mod TermFaults
+mod Kept
 mod Several
 mod Values
 mod Security

@@ -37,3 +37,9 @@ IsOfNoConstructor NonAscii = ⊥
 IsOfNoConstructor BadDescriptor = ⊥
 IsOfNoConstructor Limit = ⊥
 IsOfNoConstructor _ = Unit {0}
+
+-- It says neither that bytes end nor that a size is wrong.
+abbrev pub IsOfNoEnd : Error → Type 0
+IsOfNoEnd Cut = ⊥
+IsOfNoEnd Size = ⊥
+IsOfNoEnd _ = Unit {0}

@@ -22,13 +22,14 @@ ghost use Rattle.amqp_sums.specs.Restricted.{IsUnknownError, RestrictedFault};
 ghost use Rattle.amqp_sums.specs.Choices.{sum_of};
 ghost use Rattle.amqp_containers.specs.Several.{multiple_faults, mandatory_faults};
 ghost use Rattle.amqp_placed.specs.Bounds.{IsBounded};
-ghost use Rattle.amqp_placed.specs.Shown.{FieldsShown, ChoicesShown, IsOfNoConstructor};
+ghost use Rattle.amqp_placed.specs.Shown.{FieldsShown, ChoicesShown, IsOfNoConstructor, IsOfNoEnd};
 ghost use Rattle.amqp_placed.specs.Facing.{IsShown, AreShown};
 
 use amqp_codec::kernel::{Composite, FieldList};
 use amqp_codec::{Deserialize, DeserializeTerm, MapKey, Symbol};
 use amqp_containers::Array;
 use amqp_described::Described;
+use amqp_lazy::LazyValue;
 use amqp_maps::OrderedMap;
 use amqp_primitives::{Binary, Dec32, Dec64, Dec128, Timestamp, Uuid};
 use amqp_sasl::{SaslChallenge, SaslInit, SaslMechanisms, SaslOutcome, SaslResponse};
@@ -107,6 +108,11 @@ pub fn values()
         → AreShown e ⟦<ValueMap as DeserializeTerm>⟧.term.faults.fault }
     ensures simple { (e : Error) → IsOfNoConstructor e → (e ≡ DuplicateKey → ⊥)
         → AreShown e ⟦<SimpleValue as DeserializeTerm>⟧.term.faults.fault }
+{}
+
+/// The faults of a term of any kind whose bytes are kept are shown by bytes (Part 1, section 1.2), but for `Cut` and `Size`.
+pub fn kept_terms()
+    ensures { (e : Error) → IsOfNoEnd e → AreShown e ⟦<LazyValue as DeserializeTerm>⟧.term.faults.fault }
 {}
 
 /// The faults of the composites of the security layer are shown by bytes (Part 5, section 5.3.3). In `SaslMechanisms`, an array, the errors
