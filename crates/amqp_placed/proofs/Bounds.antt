@@ -15,7 +15,7 @@ use Rattle.amqp_decoder.specs.Arrays.{no_constructor, zero_width, too_nested, sh
 use Rattle.amqp_decoder.specs.Arrays.{no_items_opened, no_start, not_begun, wrong_code, no_data, array_left}
 use Rattle.amqp_decoder.specs.Places.{Located, At}
 use Rattle.amqp_decoder.proofs.Constructed.{code_known}
-use Rattle.amqp_placed.specs.Facing.{bytes_open, Shows, IsShown}
+use Rattle.amqp_placed.specs.Facing.{bytes_open, Shows, IsShown, Inputs}
 use Rattle.amqp_placed.specs.Bounds.{HasFewMarks, SharesFew, IsBounded}
 use Rattle.amqp_placed.proofs.Past.{past_taken, past_bytes, past_around, past_unlimited}
 use Rattle.amqp_placed.proofs.Codes.{code_wrong}
@@ -116,13 +116,14 @@ shares_shows m f n d around b (too_nested ds c m2 some t uneven deep error, is) 
     ))))))
 
 -- Each fault of an array that isn't opened, where its constructor is bounded and its items have room.
-pub bounded_shown : (st : State) (f : Located) (h : At array_left st f) → IsBounded st f.error h.0 → IsShown st f
-bounded_shown st f (not_begun fault, is) bounded P d around h = here_shows st f P d around is (begin_wrong st f.error P d around h fault)
-bounded_shown st f (wrong_code c m code differs error, is) bounded P d around h =
+pub bounded_shown : (inputs : Inputs) (st : State) (f : Located) (h : At array_left st f) → IsBounded st f.error h.0 → IsShown inputs st f
+bounded_shown inputs st f (not_begun fault, is) bounded P d around meant h = here_shows st f P d around is
+    (begin_wrong st f.error P d around h fault)
+bounded_shown inputs st f (wrong_code c m code differs error, is) bounded P d around meant h =
     here_shows st f P d around is
     (wrong_as f.error (refusal_of c) around P d (bytes_open st) error (other_code_wrong st c m P d around h code))
-bounded_shown st f (no_data c w m code array_ (no_items_opened fault), is) bounded P d around h =
+bounded_shown inputs st f (no_data c w m code array_ (no_items_opened fault), is) bounded P d around meant h =
     here_shows st f P d around is (items_wrong st c w m f.error P d around h code array_ fault)
-bounded_shown st f (no_data c w m code array_ (no_start n content m2 header some fault), is) bounded P d around h =
+bounded_shown inputs st f (no_data c w m code array_ (no_start n content m2 header some fault), is) bounded P d around meant h =
     content_shows st c w m n content m2 f P d around h code array_ header bounded.0
     (λ inner b. shares_shows (in_container InArray 0 content m2) f n d inner b (fault, is) bounded.1)

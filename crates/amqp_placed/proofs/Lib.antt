@@ -25,3 +25,4 @@ mod Kept
 mod Several
 mod Values
 mod Security
+mod Keys
