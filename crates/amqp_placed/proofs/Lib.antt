@@ -26,3 +26,4 @@ mod Several
 mod Values
 mod Security
 mod Keys
+mod Performatives

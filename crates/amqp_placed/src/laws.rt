@@ -28,9 +28,11 @@ ghost use Rattle.amqp_placed.specs.Facing.{Inputs, IsMeant, IsShown, AreShown};
 use amqp_codec::kernel::{Composite, FieldList};
 use amqp_codec::{Deserialize, DeserializeTerm, MapKey, Symbol};
 use amqp_containers::Array;
+use amqp_delivery::{DeliveryState, Outcome};
 use amqp_described::Described;
 use amqp_lazy::LazyValue;
 use amqp_maps::OrderedMap;
+use amqp_performatives::{Begin, Close, Detach, Disposition, End, Flow, Open, Transfer};
 use amqp_primitives::{Binary, Dec32, Dec64, Dec128, Timestamp, Uuid};
 use amqp_sasl::{SaslChallenge, SaslInit, SaslMechanisms, SaslOutcome, SaslResponse};
 use amqp_simple_values::SimpleValue;
@@ -132,6 +134,33 @@ pub fn security()
     ensures challenge { (inputs : Inputs) (e : Error) → AreShown inputs e ⟦<SaslChallenge as DeserializeTerm>⟧.term.faults.fault }
     ensures response { (inputs : Inputs) (e : Error) → AreShown inputs e ⟦<SaslResponse as DeserializeTerm>⟧.term.faults.fault }
     ensures outcome { (inputs : Inputs) (e : Error) → AreShown inputs e ⟦<SaslOutcome as DeserializeTerm>⟧.term.faults.fault }
+{}
+
+/// The faults of the performatives but `Attach`, and of the errors, delivery states and outcomes that they hold, are shown by bytes (Part 2,
+/// sections 2.7 and 2.8.14, and Part 3, section 3.4). `DuplicateKey` and the errors of an array's constructor are left out.
+pub fn performatives()
+    ensures error { (inputs : Inputs) (e : Error) → TellsArrays inputs e → (e ≡ DuplicateKey → ⊥)
+        → AreShown inputs e ⟦<amqp_errors::Error as DeserializeTerm>⟧.term.faults.fault }
+    ensures state { (inputs : Inputs) (e : Error) → TellsArrays inputs e → (e ≡ DuplicateKey → ⊥)
+        → AreShown inputs e ⟦<DeliveryState as DeserializeTerm>⟧.term.faults.fault }
+    ensures outcome { (inputs : Inputs) (e : Error) → TellsArrays inputs e → (e ≡ DuplicateKey → ⊥)
+        → AreShown inputs e ⟦<Outcome as DeserializeTerm>⟧.term.faults.fault }
+    ensures opening { (inputs : Inputs) (e : Error) → TellsArrays inputs e → (e ≡ DuplicateKey → ⊥)
+        → AreShown inputs e ⟦<Open as DeserializeTerm>⟧.term.faults.fault }
+    ensures beginning { (inputs : Inputs) (e : Error) → TellsArrays inputs e → (e ≡ DuplicateKey → ⊥)
+        → AreShown inputs e ⟦<Begin as DeserializeTerm>⟧.term.faults.fault }
+    ensures flow { (inputs : Inputs) (e : Error) → TellsArrays inputs e → (e ≡ DuplicateKey → ⊥)
+        → AreShown inputs e ⟦<Flow as DeserializeTerm>⟧.term.faults.fault }
+    ensures transfer { (inputs : Inputs) (e : Error) → TellsArrays inputs e → (e ≡ DuplicateKey → ⊥)
+        → AreShown inputs e ⟦<Transfer as DeserializeTerm>⟧.term.faults.fault }
+    ensures disposition { (inputs : Inputs) (e : Error) → TellsArrays inputs e → (e ≡ DuplicateKey → ⊥)
+        → AreShown inputs e ⟦<Disposition as DeserializeTerm>⟧.term.faults.fault }
+    ensures detach { (inputs : Inputs) (e : Error) → TellsArrays inputs e → (e ≡ DuplicateKey → ⊥)
+        → AreShown inputs e ⟦<Detach as DeserializeTerm>⟧.term.faults.fault }
+    ensures ending { (inputs : Inputs) (e : Error) → TellsArrays inputs e → (e ≡ DuplicateKey → ⊥)
+        → AreShown inputs e ⟦<End as DeserializeTerm>⟧.term.faults.fault }
+    ensures closing { (inputs : Inputs) (e : Error) → TellsArrays inputs e → (e ≡ DuplicateKey → ⊥)
+        → AreShown inputs e ⟦<Close as DeserializeTerm>⟧.term.faults.fault }
 {}
 
 /// The faults of a value of one type or another by an error are shown by bytes, if those of both types are.
