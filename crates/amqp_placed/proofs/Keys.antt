@@ -1,5 +1,5 @@
 -- No key begins at the end of an input.
-use Rattle.std.proofs.Common.{◌≡◌, ℕ, ◌+◌, ◌≤◌, List, [], ◌∷◌, ◌++◌, length, refl, sym, ap, ◌∙◌, subst, arith}
+use Rattle.std.proofs.Common.{ℕ, ◌≤◌, List, length, ap, arith}
 use Rattle.std.proofs.lemmas.List.{length-append}
 use Rattle.amqp_model.proofs.Lengths.{spelling_length}
 use Rattle.amqp_wire.specs.declared.error.Error.TheVariants.{DuplicateKey}

@@ -27,3 +27,4 @@ mod Values
 mod Security
 mod Keys
 mod Performatives
+mod Attaching

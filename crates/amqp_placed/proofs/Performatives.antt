@@ -16,7 +16,7 @@ use Rattle.amqp_errors.specs.Tables.{error}
 use Rattle.amqp_delivery.specs.Tables.{outcomes, outcome, delivery_states, delivery_state}
 use Rattle.amqp_performatives.specs.Tables.{opening, begin, flow, transfer, disposition, detach, ending, close}
 use Rattle.amqp_placed.specs.Facing.{AreShown, Inputs}
-use Rattle.amqp_placed.specs.Shown.{TellsArrays}
+use Rattle.amqp_placed.specs.Shown.{FieldsShown, TellsArrays}
 use Rattle.amqp_placed.proofs.Primitives.{primitive_shown}
 use Rattle.amqp_placed.proofs.Items.{map_shown}
 use Rattle.amqp_placed.proofs.Composites.{composite_shown}
@@ -25,13 +25,13 @@ use Rattle.amqp_placed.proofs.Several.{multiple_shown}
 use Rattle.amqp_placed.proofs.Values.{value_shown}
 
 module _ (inputs : Inputs) (e : Error) (other : TellsArrays inputs e) (new : e ≡ DuplicateKey → ⊥) where
-  basic : (k : ℕ) → AreShown inputs e (Here (PrimitiveFault k))
+  pub basic : (k : ℕ) → AreShown inputs e (Here (PrimitiveFault k))
   basic k st f is = primitive_shown inputs k st f
 
-  several : AreShown inputs e (multiple_faults symbol_type).fault
+  pub several : AreShown inputs e (multiple_faults symbol_type).fault
   several = multiple_shown inputs e other symbol_type (basic symbols)
 
-  held : AreShown inputs e fields_type.faults.fault
+  pub held : AreShown inputs e fields_type.faults.fault
   held = map_shown symbol_type value_type inputs e new (basic symbols) (value_shown inputs e other new)
 
   pub error_shown : AreShown inputs e (composite error).faults.fault
@@ -44,44 +44,146 @@ module _ (inputs : Inputs) (e : Error) (other : TellsArrays inputs e) (new : e �
 
   pub state_shown : AreShown inputs e delivery_state.faults.fault
   state_shown =
-      sum_shown inputs e delivery_states
-      ((basic uints, (basic ulongs, tt)), (tt, ((error_shown, tt), (tt, ((basic booleans, (basic booleans, (held, tt))),
-      ((basic binaries, tt), ((basic binaries, (outcome_shown, tt)), tt)))))))
+      sum_shown inputs e delivery_states (
+        (basic uints, (basic ulongs, tt)),
+        (
+          tt,
+          (
+            (error_shown, tt),
+            (
+              tt,
+              (
+                (basic booleans, (basic booleans, (held, tt))),
+                ((basic binaries, tt), ((basic binaries, (outcome_shown, tt)), tt)),
+              ),
+            ),
+          ),
+        ),
+      )
 
-  pub open_shown : AreShown inputs e (composite opening).faults.fault
-  open_shown =
-      composite_shown inputs e opening
-      (basic strings, (basic strings, (basic uints, (basic ushorts, (basic uints, (several, (several, (several, (several, (held, tt))))))))))
+  pub open_fields : FieldsShown inputs e opening.fields
+  open_fields = (
+    basic strings,
+    (
+      basic strings,
+      (
+        basic uints,
+        (
+          basic ushorts,
+          (
+            basic uints,
+            (
+              several,
+              (
+                several,
+                (
+                  several,
+                  (
+                    several,
+                    (
+                      held,
+                      tt,
+                    ),
+                  ),
+                ),
+              ),
+            ),
+          ),
+        ),
+      ),
+    ),
+  )
 
-  pub begin_shown : AreShown inputs e (composite begin).faults.fault
-  begin_shown =
-      composite_shown inputs e begin
+  pub begin_fields : FieldsShown inputs e begin.fields
+  begin_fields =
       (basic ushorts, (basic uints, (basic uints, (basic uints, (basic uints, (several, (several, (held, tt))))))))
 
-  pub flow_shown : AreShown inputs e (composite flow).faults.fault
-  flow_shown =
-      composite_shown inputs e flow
-      (basic uints, (basic uints, (basic uints, (basic uints, (basic uints, (basic uints, (basic uints, (basic uints,
-      (basic booleans, (basic booleans, (held, tt)))))))))))
+  pub flow_fields : FieldsShown inputs e flow.fields
+  flow_fields = (
+    basic uints,
+    (
+      basic uints,
+      (
+        basic uints,
+        (
+          basic uints,
+          (
+            basic uints,
+            (
+              basic uints,
+              (
+                basic uints,
+                (
+                  basic uints,
+                  (basic booleans, (basic booleans, (held, tt))),
+                ),
+              ),
+            ),
+          ),
+        ),
+      ),
+    ),
+  )
 
-  pub transfer_shown : AreShown inputs e (composite transfer).faults.fault
-  transfer_shown =
-      composite_shown inputs e transfer
-      (basic uints, (basic uints, (basic binaries, (basic uints, (basic booleans, (basic booleans,
-      (restricted_shown inputs e ubyte_base UnknownNumber receiver_settle_mode_numbers tt, (state_shown, (basic booleans, (basic booleans,
-      (basic booleans, tt)))))))))))
+  pub transfer_fields : FieldsShown inputs e transfer.fields
+  transfer_fields = (
+    basic uints,
+    (
+      basic uints,
+      (
+        basic binaries,
+        (
+          basic uints,
+          (
+            basic booleans,
+            (
+              basic booleans,
+              (
+                restricted_shown inputs e ubyte_base UnknownNumber receiver_settle_mode_numbers tt,
+                (
+                  state_shown,
+                  (
+                    basic booleans,
+                    (
+                      basic booleans,
+                      (basic booleans, tt),
+                    ),
+                  ),
+                ),
+              ),
+            ),
+          ),
+        ),
+      ),
+    ),
+  )
 
-  pub disposition_shown : AreShown inputs e (composite disposition).faults.fault
-  disposition_shown =
-      composite_shown inputs e disposition
-      (restricted_shown inputs e boolean_base UnknownNumber role_numbers tt, (basic uints, (basic uints, (basic booleans, (state_shown,
-      (basic booleans, tt))))))
+  pub disposition_fields : FieldsShown inputs e disposition.fields
+  disposition_fields = (
+    restricted_shown inputs e boolean_base UnknownNumber role_numbers tt,
+    (
+      basic uints,
+      (
+        basic uints,
+        (
+          basic booleans,
+          (
+            state_shown,
+            (basic booleans, tt),
+          ),
+        ),
+      ),
+    ),
+  )
 
-  pub detach_shown : AreShown inputs e (composite detach).faults.fault
-  detach_shown = composite_shown inputs e detach (basic uints, (basic booleans, (error_shown, tt)))
+  pub detach_fields : FieldsShown inputs e detach.fields
+  detach_fields =
+      (basic uints, (basic booleans, (error_shown, tt)))
 
-  pub end_shown : AreShown inputs e (composite ending).faults.fault
-  end_shown = composite_shown inputs e ending (error_shown, tt)
+  pub end_fields : FieldsShown inputs e ending.fields
+  end_fields =
+      (error_shown, tt)
 
-  pub close_shown : AreShown inputs e (composite close).faults.fault
-  close_shown = composite_shown inputs e close (error_shown, tt)
+  pub close_fields : FieldsShown inputs e close.fields
+  close_fields =
+      (error_shown, tt)

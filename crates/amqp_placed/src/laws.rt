@@ -25,6 +25,7 @@ ghost use Rattle.amqp_placed.specs.Bounds.{IsBounded};
 ghost use Rattle.amqp_placed.specs.Shown.{FieldsShown, ChoicesShown, IsOfNoEnd, TellsArrays};
 ghost use Rattle.amqp_placed.specs.Facing.{Inputs, IsMeant, IsShown, AreShown};
 
+use amqp_attach::{Attach, Performative};
 use amqp_codec::kernel::{Composite, FieldList};
 use amqp_codec::{Deserialize, DeserializeTerm, MapKey, Symbol};
 use amqp_containers::Array;
@@ -37,6 +38,7 @@ use amqp_primitives::{Binary, Dec32, Dec64, Dec128, Timestamp, Uuid};
 use amqp_sasl::{SaslChallenge, SaslInit, SaslMechanisms, SaslOutcome, SaslResponse};
 use amqp_simple_values::SimpleValue;
 use amqp_sums::Sum;
+use amqp_termini::{Coordinator, LifetimePolicy, Source, Target, TargetArchetype};
 use amqp_values::{Value, ValueMap};
 use std::collections::BTreeMap;
 use std::rc::Rc;
@@ -136,8 +138,8 @@ pub fn security()
     ensures outcome { (inputs : Inputs) (e : Error) → AreShown inputs e ⟦<SaslOutcome as DeserializeTerm>⟧.term.faults.fault }
 {}
 
-/// The faults of the performatives but `Attach`, and of the errors, delivery states and outcomes that they hold, are shown by bytes (Part 2,
-/// sections 2.7 and 2.8.14, and Part 3, section 3.4). `DuplicateKey` and the errors of an array's constructor are left out.
+/// The faults of the performatives, and of the errors, delivery states, outcomes and termini that they hold, are shown by bytes (Part 2,
+/// sections 2.7 and 2.8.14, and Part 3, sections 3.4 and 3.5). `DuplicateKey` and the errors of an array's constructor are left out.
 pub fn performatives()
     ensures error { (inputs : Inputs) (e : Error) → TellsArrays inputs e → (e ≡ DuplicateKey → ⊥)
         → AreShown inputs e ⟦<amqp_errors::Error as DeserializeTerm>⟧.term.faults.fault }
@@ -161,6 +163,20 @@ pub fn performatives()
         → AreShown inputs e ⟦<End as DeserializeTerm>⟧.term.faults.fault }
     ensures closing { (inputs : Inputs) (e : Error) → TellsArrays inputs e → (e ≡ DuplicateKey → ⊥)
         → AreShown inputs e ⟦<Close as DeserializeTerm>⟧.term.faults.fault }
+    ensures attach { (inputs : Inputs) (e : Error) → TellsArrays inputs e → (e ≡ DuplicateKey → ⊥)
+        → AreShown inputs e ⟦<Attach as DeserializeTerm>⟧.term.faults.fault }
+    ensures performative { (inputs : Inputs) (e : Error) → TellsArrays inputs e → (e ≡ DuplicateKey → ⊥)
+        → AreShown inputs e ⟦<Performative as DeserializeTerm>⟧.term.faults.fault }
+    ensures source { (inputs : Inputs) (e : Error) → TellsArrays inputs e → (e ≡ DuplicateKey → ⊥)
+        → AreShown inputs e ⟦<Source as DeserializeTerm>⟧.term.faults.fault }
+    ensures target { (inputs : Inputs) (e : Error) → TellsArrays inputs e → (e ≡ DuplicateKey → ⊥)
+        → AreShown inputs e ⟦<Target as DeserializeTerm>⟧.term.faults.fault }
+    ensures coordinator { (inputs : Inputs) (e : Error) → TellsArrays inputs e → (e ≡ DuplicateKey → ⊥)
+        → AreShown inputs e ⟦<Coordinator as DeserializeTerm>⟧.term.faults.fault }
+    ensures lifetime { (inputs : Inputs) (e : Error) → TellsArrays inputs e → (e ≡ DuplicateKey → ⊥)
+        → AreShown inputs e ⟦<LifetimePolicy as DeserializeTerm>⟧.term.faults.fault }
+    ensures archetype { (inputs : Inputs) (e : Error) → TellsArrays inputs e → (e ≡ DuplicateKey → ⊥)
+        → AreShown inputs e ⟦<TargetArchetype as DeserializeTerm>⟧.term.faults.fault }
 {}
 
 /// The faults of a value of one type or another by an error are shown by bytes, if those of both types are.
