@@ -28,3 +28,4 @@ mod Security
 mod Keys
 mod Performatives
 mod Attaching
+mod Limits

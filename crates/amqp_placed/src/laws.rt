@@ -1,5 +1,5 @@
 //! The laws of the places of errors: what stands there is at fault, over bytes alone. The functions do nothing; their contracts are proved.
-ghost use Rattle.std.specs.Prelude.{◌≡◌, ◌≤◌, ℕ, Bool, List, length};
+ghost use Rattle.std.specs.Prelude.{◌≡◌, ◌<◌, ◌≤◌, ◌^◌, ℕ, Bool, List, length};
 ghost use Rattle.amqp_model.specs.Term.{Container, array, Term, Descriptor};
 ghost use Rattle.amqp_wire.specs.declared.error.Error.{Error};
 ghost use Rattle.amqp_wire.specs.declared.error.Error.TheVariants.{DuplicateKey};
@@ -13,8 +13,9 @@ ghost use Rattle.amqp_decoder.specs.Primitives.{PrimitiveFault};
 ghost use Rattle.amqp_decoder.specs.Containers.{Opens, OpenFault, CloseFault};
 ghost use Rattle.amqp_decoder.specs.Described.{OpensDescribed, open_left, one_of_left};
 ghost use Rattle.amqp_decoder.specs.Arrays.{array_left};
+ghost use Rattle.amqp_decoder.specs.OtherSource.{IsByDepth};
 ghost use Rattle.amqp_decoder.specs.Places.{Located, Here, At};
-ghost use Rattle.amqp_codec.specs.Reading.{IsGreatest, IsFaultyAt};
+ghost use Rattle.amqp_codec.specs.Reading.{IsGreatest, IsFaultyAt, HasFaultAt};
 ghost use Rattle.amqp_codec.specs.PrimitiveTypes.{Base};
 ghost use Rattle.amqp_codec.specs.FieldReading.{FieldsFault};
 ghost use Rattle.amqp_codec.specs.EitherMeaning.{EitherFault};
@@ -44,11 +45,17 @@ use std::collections::BTreeMap;
 use std::rc::Rc;
 
 /// What stands at the place of an error is at fault, if the type's faults by that error are shown by bytes: in an input that begins with no
-/// value of the type, within no limits of the caller. `from_slice_located` returns such a place (`place`). The law is for any input, or for
-/// those without arrays (`Inputs`).
+/// value of the type. `from_slice_located` returns such a place (`place`), and so does `from_reader_located`, if there are fewer than 2^64
+/// bytes (`read`). Within limits of the caller, `Depth` and `Limit` are left out. The law is for any input, or for those without arrays
+/// (`Inputs`).
 pub fn shown_faults_stand<T: DeserializeTerm>()
-    ensures { (inputs : Inputs) (e : Error) → AreShown inputs e T.term.faults.fault → (limits : Limits) (input : List ℕ) (at : ℕ)
+    ensures unlimited { (inputs : Inputs) (e : Error) → AreShown inputs e T.term.faults.fault → (limits : Limits) (input : List ℕ) (at : ℕ)
         → IsGreatest limits → IsMeant inputs input → IsFaultyAt limits ⟦<T as Deserialize>⟧.reading input e at → StandsAt input e at }
+    ensures limited { (inputs : Inputs) (e : Error) → (IsByDepth e → ⊥) → AreShown inputs e T.term.faults.fault → (limits : Limits)
+        (input : List ℕ) (at : ℕ) → IsMeant inputs input → IsFaultyAt limits ⟦<T as Deserialize>⟧.reading input e at → StandsAt input e at }
+    ensures read { (inputs : Inputs) (e : Error) → (IsByDepth e → ⊥) → AreShown inputs e T.term.faults.fault → (limits : Limits)
+        (input : List ℕ) (at : ℕ) → at < 2 ^ 64 → length input < 2 ^ 64 → IsMeant inputs input
+        → HasFaultAt limits ⟦<T as Deserialize>⟧.reading input e at → StandsAt input e at }
 {}
 
 /// Each fault of a primitive is shown by bytes (Part 1, section 1.6).
