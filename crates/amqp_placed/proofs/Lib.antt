@@ -29,3 +29,4 @@ mod Keys
 mod Performatives
 mod Attaching
 mod Limits
+mod Shrinking

@@ -1,8 +1,8 @@
 //! The laws of the places of errors: what stands there is at fault, over bytes alone. The functions do nothing; their contracts are proved.
-ghost use Rattle.std.specs.Prelude.{◌≡◌, ◌<◌, ◌≤◌, ◌^◌, ℕ, Bool, List, length};
+ghost use Rattle.std.specs.Prelude.{◌≡◌, ◌<◌, ◌≤◌, ◌^◌, ℕ, Bool, List, ◌∷◌, length};
 ghost use Rattle.amqp_model.specs.Term.{Container, array, Term, Descriptor};
 ghost use Rattle.amqp_wire.specs.declared.error.Error.{Error};
-ghost use Rattle.amqp_wire.specs.declared.error.Error.TheVariants.{DuplicateKey};
+ghost use Rattle.amqp_wire.specs.declared.error.Error.TheVariants.{Cut, DuplicateKey};
 ghost use Rattle.amqp_wire.specs.declared.limits.Limits.{Limits};
 ghost use Rattle.amqp_lengths.specs.Stands.{StandsAt};
 ghost use Rattle.amqp_lookahead.specs.Members.{Member};
@@ -143,6 +143,12 @@ pub fn security()
     ensures challenge { (inputs : Inputs) (e : Error) → AreShown inputs e ⟦<SaslChallenge as DeserializeTerm>⟧.term.faults.fault }
     ensures response { (inputs : Inputs) (e : Error) → AreShown inputs e ⟦<SaslResponse as DeserializeTerm>⟧.term.faults.fault }
     ensures outcome { (inputs : Inputs) (e : Error) → AreShown inputs e ⟦<SaslOutcome as DeserializeTerm>⟧.term.faults.fault }
+{}
+
+/// Where a described value begins an input, `Cut` isn't shown by bytes: what is cut is its descriptor, or what that describes. A
+/// `LazyValue` places it there nevertheless, if the value is cut in its data.
+pub fn described_values_begin_whole()
+    ensures { (more : List ℕ) → StandsAt (0 ∷ more) Cut 0 → ⊥ }
 {}
 
 /// The faults of the performatives, and of the errors, delivery states, outcomes and termini that they hold, are shown by bytes (Part 2,
