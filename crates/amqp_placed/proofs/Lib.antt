@@ -30,3 +30,4 @@ mod Performatives
 mod Attaching
 mod Limits
 mod Shrinking
+mod Headers

@@ -9,6 +9,8 @@ use Rattle.amqp_decoder.specs.Items.{Next}
 use Rattle.amqp_codec.specs.Fields.{Fields, none, field}
 use Rattle.amqp_codec.specs.Members.{Members}
 use Rattle.amqp_sums.specs.Choices.{Choices, no_more, member}
+use Rattle.amqp_kinds.specs.KindMembers as kinds
+use Rattle.amqp_kinds.specs.KindMembers.{KindMembers}
 use Rattle.amqp_placed.specs.Facing.{Inputs, any_input, without_arrays, AreShown}
 
 -- Of each field, that its faults by this error are shown.
@@ -24,6 +26,11 @@ AreTerms {V} m = (i : ℕ) (inner : State) (v : V) (last : State) → m.reads i 
 abbrev pub ChoicesShown : {V : Type 0} → Inputs → Error → Choices V → Type 0
 ChoicesShown inputs e no_more = Unit {0}
 ChoicesShown inputs e (member c make cs) = FieldsShown inputs e c.fields × ChoicesShown inputs e cs
+
+-- Of each primitive type of a sum, that its faults are.
+abbrev pub KindsShown : {V : Type 0} → Inputs → Error → KindMembers V → Type 0
+KindsShown inputs e kinds.no_more = Unit {0}
+KindsShown inputs e (kinds.member m make ms) = AreShown inputs e m.type.faults.fault × KindsShown inputs e ms
 
 -- The errors that the constructor of an array's items never has (Part 1, section 1.2.4).
 abbrev pub IsOfNoConstructor : Error → Type 0

@@ -34,6 +34,7 @@ use amqp_delivery::{DeliveryState, Outcome};
 use amqp_described::Described;
 use amqp_lazy::LazyValue;
 use amqp_maps::OrderedMap;
+use amqp_message_headers::{Header, MessageId, Properties};
 use amqp_performatives::{Begin, Close, Detach, Disposition, End, Flow, Open, Transfer};
 use amqp_primitives::{Binary, Dec32, Dec64, Dec128, Timestamp, Uuid};
 use amqp_sasl::{SaslChallenge, SaslInit, SaslMechanisms, SaslOutcome, SaslResponse};
@@ -143,6 +144,14 @@ pub fn security()
     ensures challenge { (inputs : Inputs) (e : Error) → AreShown inputs e ⟦<SaslChallenge as DeserializeTerm>⟧.term.faults.fault }
     ensures response { (inputs : Inputs) (e : Error) → AreShown inputs e ⟦<SaslResponse as DeserializeTerm>⟧.term.faults.fault }
     ensures outcome { (inputs : Inputs) (e : Error) → AreShown inputs e ⟦<SaslOutcome as DeserializeTerm>⟧.term.faults.fault }
+{}
+
+/// Each fault of a message's header, of its properties and of an identifier of a message is shown by bytes (Part 3, sections 3.2.1, 3.2.4
+/// and 3.2.11 to 3.2.14).
+pub fn message_headers()
+    ensures header { (inputs : Inputs) (e : Error) → AreShown inputs e ⟦<Header as DeserializeTerm>⟧.term.faults.fault }
+    ensures properties { (inputs : Inputs) (e : Error) → AreShown inputs e ⟦<Properties as DeserializeTerm>⟧.term.faults.fault }
+    ensures identifier { (inputs : Inputs) (e : Error) → AreShown inputs e ⟦<MessageId as DeserializeTerm>⟧.term.faults.fault }
 {}
 
 /// Where a described value begins an input, `Cut` isn't shown by bytes: what is cut is its descriptor, or what that describes. A
