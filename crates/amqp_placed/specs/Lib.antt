@@ -1,0 +1,3 @@
+pub mod Facing
+pub mod Shown
+pub mod Bounds
