@@ -1,8 +1,10 @@
 -- Blocks begin the input that they are made of.
-use Rattle.std.proofs.Common.{◌≡◌, ℕ, ◌≤◌, ◌-◌, List, length, Option, Some, None, IfSome, unwrap_or, refl, sym, ap, subst, arith, Result, Ok, Err, IfOk}
-use Rattle.std.proofs.lemmas.List.{length-take}
+use Rattle.std.proofs.Common.{◌≡◌, ℕ, ◌≤◌, ◌-◌, ◌*◌, ◌∙◌, min, take, drop, List, length, Option, Some, None, IfSome, unwrap_or, refl, sym, ap, subst, arith, Result, Ok, Err, IfOk}
+use Rattle.std.proofs.lemmas.List.{length-take, length-drop}
 use Rattle.amqp_frames.specs.FrameErrors.{place_of}
+use Rattle.amqp_frames.specs.Frames.{BeginsWithFrame, data_offset_of, size_of}
 use Rattle.amqp_frames.specs.Headers.{BeginsWithHeader}
+use Rattle.amqp_frames.specs.declared.frame_header.FrameHeader.{FrameHeader}
 use Rattle.amqp_frames.specs.declared.protocol_header.ProtocolHeader.{ProtocolHeader}
 use Rattle.amqp_frames.specs.declared.frame_error.FrameError.{FrameError}
 use Rattle.amqp_frames.specs.declared.frame_error.FrameError.TheVariants.{SizeBelowHeader, SizeAboveMaximum, DataOffsetBelowHeader}
@@ -47,3 +49,22 @@ in_a_header NotProtocolHeader = omega arith
 -- a protocol header has eight bytes
 pub eight : (input : List ℕ) (h : ProtocolHeader) → BeginsWithHeader input h → 8 ≤ length input
 eight input h begins = omega (arith, ap length begins, length-take 8 input)
+
+-- the body of a frame begins behind its header
+pub body_begins : (max : ℕ) (input : List ℕ) (header : FrameHeader) (extended body : List ℕ) → BeginsWithFrame max input header extended body
+    → (len at : ℕ) → len ≡ min header.size (length input) → at ≡ len - length body → (8 ≤ at) × (at ≤ len) × (len ≤ length input)
+body_begins max input header extended body h len at is behind =
+    let bytes = take header.size input in
+    let f = h.is in
+    let from = 4 * data_offset_of bytes in
+    let parts = f.sound.data_offset in
+    let cut : length body ≡ min (size_of bytes - from) (length (drop from bytes)) =
+    ap length f.body_is ∙ length-take (size_of bytes - from) (drop from bytes) in
+    let all : length (drop from bytes) ≡ length bytes - from = length-drop from bytes in
+    let there = h.there in
+    let least = parts.least in
+    let most = parts.most in (
+      omega (arith, cut, all, f.whole, f.size, is, behind, there, least, most),
+      omega (arith, behind),
+      omega (arith, is),
+    )

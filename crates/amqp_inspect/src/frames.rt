@@ -108,20 +108,31 @@ impl Frames {
     ) -> Result<Block, AllocError>
         ensures { body_at ≤ length bytes.now → IfOk result (HasBody body_at (length bytes.now)) }
     {
-        let (block, end) = match kind {
-            FrameKind::Amqp { .. } if body_at >= bytes.len() => {
-                (
-                    Block::new(Subject::NoFrame, bytes.len(), alloc),
-                    bytes.len(),
-                )
-            }
-            FrameKind::Amqp { channel } => self.amqp_block(bytes, body_at, channel, alloc)?,
-            FrameKind::Sasl => (
-                sasl_block(bytes, body_at, &self.bounds, alloc)?,
-                bytes.len(),
-            ),
-        };
+        let (block, end) = self.body_block(bytes, body_at, kind, alloc)?;
         Ok(block.with_payload(some_span(end, bytes.len())))
+    }
+
+    // The same without its payload, and where the payload begins.
+    fn body_block(
+        &mut self,
+        bytes: &[u8],
+        body_at: usize,
+        kind: FrameKind,
+        alloc: Global,
+    ) -> Result<(Block, usize), AllocError>
+        ensures { body_at ≤ length bytes.now → IfOk result (HasValue body_at (length bytes.now)) }
+    {
+        let len = bytes.len();
+        match kind {
+            FrameKind::Amqp { .. } if body_at >= len => {
+                Ok((Block::new(Subject::NoFrame, len, alloc), len))
+            }
+            FrameKind::Amqp { channel } => self.amqp_block(bytes, body_at, channel, alloc),
+            FrameKind::Sasl => {
+                let block = sasl_block(bytes, body_at, &self.bounds, alloc)?;
+                Ok((block, len))
+            }
+        }
     }
 
     // A frame with a performative and the message that its payload is, and where the payload begins.
