@@ -1,6 +1,6 @@
 use Rattle.amqp_decoder.specs.Primitives.{ReadsFixed}
 use Rattle.amqp_decoder.proofs.Places.{placed_ok, placed_fault, placed_tries, placed_here}
-use Rattle.amqp_decoder.proofs.decoder.Decoder.fixed.Goals as goal
+use Rattle.amqp_decoder.proofs.decoder.Decoder.any_fixed.Goals as goal
 
 pub returns-clause-ok : goal.returns-clause-ok
 returns-clause-ok g c = λ told. rw (c.placed.ensures.same, c.placed.ensures.kept)

@@ -2,7 +2,7 @@ use Rattle.std.proofs.Common.{◌<◌, length}
 use Rattle.amqp_decoder.specs.State.{State}
 use Rattle.amqp_decoder.specs.Reading.{ReadsCode}
 use Rattle.amqp_decoder.proofs.Places.{placed_ok, placed_fault, placed_tries, placed_here}
-use Rattle.amqp_decoder.proofs.decoder.Decoder.begin_descriptor.Goals as goal
+use Rattle.amqp_decoder.proofs.decoder.Decoder.begin_any_descriptor.Goals as goal
 
 pub returns-clause-ok : goal.returns-clause-ok
 returns-clause-ok g c = λ told. rw (c.placed.ensures.same, c.placed.ensures.kept)

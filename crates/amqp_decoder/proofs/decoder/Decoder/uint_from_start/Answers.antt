@@ -1,5 +1,5 @@
 use Rattle.amqp_decoder.proofs.Places.{placed_read, placed_tries, placed_here}
-use Rattle.amqp_decoder.proofs.decoder.Decoder.read_any_uint.Goals as goal
+use Rattle.amqp_decoder.proofs.decoder.Decoder.uint_from_start.Goals as goal
 
 pub returns-clause-read : goal.returns-clause-read
 returns-clause-read g c = λ told. rw (c.placed.ensures.same, c.placed.ensures.kept)
