@@ -11,7 +11,7 @@ use Rattle.amqp_model.specs.Spelling.{Constructor, PrimitiveData, ContainerData,
 use Rattle.amqp_model.specs.Measures.{nest, nests, array_nest, weights}
 use Rattle.amqp_model.specs.Standing.{Standing, StandInArray}
 use Rattle.amqp_decoder.specs.declared.frame.Place.TheVariants.{InArray}
-use Rattle.amqp_decoder.specs.State.{Open, State, Has, lower, after_data, after_value, counted_in, is_shared, weight_at, in_container}
+use Rattle.amqp_decoder.specs.State.{Open, State, Has, lower, after_data, after_value, counted_in, is_shared, in_container}
 use Rattle.amqp_decoder.specs.Steps.{Takes}
 use Rattle.amqp_decoder.specs.Containers.{ReadsHeader}
 use Rattle.amqp_decoder.specs.Arrays.{TakesConstructor, IsFlat, Shares, no_items, shared_by, Starts, EntersArray, OpensArray}

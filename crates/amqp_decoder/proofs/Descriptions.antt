@@ -15,7 +15,6 @@ use Rattle.amqp_decoder.specs.Primitives.{standing, SpellsAs, Stands}
 use Rattle.amqp_decoder.specs.Containers.{ClosesDescribed}
 use Rattle.amqp_decoder.specs.Described.{IsDescriptor, behind, in_described}
 use Rattle.amqp_decoder.specs.Items.{Next, NextWithParts, DescribedStands}
-use Rattle.amqp_decoder.proofs.Steps.{has_none}
 use Rattle.amqp_decoder.proofs.ReadPrimitives.{has_add, has_front, has_rest, lower-lower, minus-minus}
 
 -- a term nests at least as deep as it is described

@@ -1,5 +1,5 @@
 -- Bytes that are taken and kept.
-use Rattle.std.proofs.Common.{arith, ◌≡◌, ◌≤◌, ◌<◌, ℕ, ◌^◌, ◌-◌, inl, inr, Bool, true, false, cond, Some, List, ◌++◌, length, take}
+use Rattle.std.proofs.Common.{arith, ◌≡◌, ◌≤◌, ◌<◌, ℕ, ◌^◌, ◌-◌, inl, inr, Bool, true, false, cond, List, ◌++◌, length, take}
 use Rattle.std.proofs.Common.{drop, refl, sym, ap, ◌∙◌, subst, append_assoc, length-append, IsAscii}
 use Rattle.std.proofs.lemmas.List.{length-take-le, take-append-drop, drop_at}
 use Rattle.std.specs.List.{slice_range}

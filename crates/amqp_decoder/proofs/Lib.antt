@@ -19,6 +19,7 @@ pub mod Opening
 pub mod Peeks
 pub mod Places
 pub mod Quick
+pub mod QuickTexts
 pub mod ReadPrimitives
 pub mod Reserve
 pub mod Rooms

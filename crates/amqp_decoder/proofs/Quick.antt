@@ -3,13 +3,14 @@ use Rattle.std.proofs.Common.{◌≡◌, ◌<◌, ℕ, ◌-◌, ◌+◌, Option,
 use Rattle.std.proofs.Common.{drop-drop, None, IfSome, MatchOption}
 use Rattle.std.proofs.lemmas.List.{length-drop, take_all}
 use Rattle.amqp_lookahead.proofs.SectionsAhead.{bytes_at, bytes_are}
+use Rattle.amqp_model.specs.Term.{Descriptor}
 use Rattle.amqp_decoder.specs.State.{State, Has, lower, counted, counted_in, after_data, after_look}
 use Rattle.amqp_decoder.specs.Steps.{Takes}
-use Rattle.amqp_decoder.specs.Reading.{ReadsCode, PeeksCode}
+use Rattle.amqp_decoder.specs.Reading.{IsFirstShared, ReadsCode, PeeksCode}
 use Rattle.amqp_decoder.specs.Primitives.{ReadsFixed}
-use Rattle.amqp_decoder.specs.Quick.{IsPlain}
+use Rattle.amqp_decoder.specs.Quick.{IsPlain, IsElement}
 use Rattle.amqp_decoder.proofs.Counts.{one_may_begin, unshared_counts}
-use Rattle.amqp_decoder.proofs.Steps.{began, begun_own, has_item}
+use Rattle.amqp_decoder.proofs.Steps.{began, begun_own, begun_shared, has_item}
 use Rattle.amqp_decoder.proofs.Peeks.{peeked_own}
 use Rattle.amqp_decoder.proofs.ReadPrimitives.{took_none, has_front, has_rest, lower-lower}
 
@@ -115,3 +116,38 @@ quick_begins st (c ∷ d ∷ s) new plain some long rest e = absurd (omega (arit
 quick_begins st (c ∷ []) new plain some long rest e =
     let f = quick_reads st c 1 (c ∷ []) new plain some (omega arith) refl rest rest e in
     quick_begun st f.mid new c [] refl f.begun f.took.moved
+
+-- an item is taken, which counts as k
+abbrev taken_element : ℕ → State → State
+taken_element k st = record st { top = record st.top { items = lower st.top.items 1 }; quota = lower st.quota k }
+
+-- the items of an array whose constructor has no descriptor weigh as the code does
+element_counts : (o : Option (List Descriptor × ℕ)) (c : ℕ) → IsFirstShared o c → 0 < c → counted_in o c ≡ counted c
+element_counts None c h some = absurd h
+element_counts (Some ([], k)) c h some = refl
+element_counts (Some (d ∷ ds, k)) c h some = absurd (omega (arith, h, some))
+
+-- the data of an item that was taken at once
+pub element_reads : (st : State) (code n : ℕ) (s : List ℕ) (b d new : State) → IsElement code st → length s ≡ n → Takes st s b
+    → d ≡ record b { top = record b.top { items = lower b.top.items 1 } } → new ≡ record d { quota = lower d.quota (counted code) }
+    → ReadsFixed code n st s new
+element_reads st code n s b d new e long t ed en =
+    let counts = element_counts st.top.shared code e.shared e.coded in
+    let few : Has st.quota (counted_in st.top.shared code) = subst (Has st.quota) (sym counts) (one_may_begin st.quota code e.few) in
+    let taken : new ≡ taken_element (counted code) (after_data (length s) st) =
+    en ∙ ap (λ (x : State). record x { quota = lower x.quota (counted code) })
+    (ed ∙ ap (λ (x : State). record x { top = record x.top { items = lower x.top.items 1 } }) t.moved) in
+    record {
+      mid = began code st;
+      begun = begun_shared st code e.going e.item e.shared few;
+      took = record {
+        room = t.room;
+        rest = t.rest;
+        moved = taken ∙ ap (λ k. taken_element k (after_data (length s) st)) (sym counts);
+      };
+      width = long;
+    }
+
+-- the code of a described value is one byte without data
+pub code_begins : (st : State) (code : ℕ) (b : List ℕ) (new : State) → ReadsFixed code 0 st b new → ReadsCode st code new
+code_begins st code b new f = quick_begun st f.mid new code b f.width f.begun f.took.moved

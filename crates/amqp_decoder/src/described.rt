@@ -2,7 +2,7 @@
 ghost use Rattle.amqp_decoder.specs.declared.frame.Place.TheVariants.{InDescribed};
 ghost use Rattle.amqp_decoder.specs.Reading.{AnswersRead};
 ghost use Rattle.amqp_decoder.specs.Containers.{ClosesDescribed, EndFault};
-ghost use Rattle.std.specs.Prelude.{◌≡◌, ◌≤◌, ◌<◌, length, take, Some, None, IfOk, IfErr, IsAscii, true, false};
+ghost use Rattle.std.specs.Prelude.{◌≡◌, ◌≤◌, ◌<◌, length, take, Some, None, IfOk, IfErr, IsAscii, true, false, IfSome};
 ghost use Rattle.amqp_wire.specs.declared.error.Error.TheVariants.{Memory};
 ghost use Rattle.amqp_model.specs.Term.{name as of_name};
 ghost use Rattle.amqp_wire.specs.Sources.{Tells};
@@ -10,7 +10,7 @@ ghost use Rattle.amqp_wire.specs.Codes.{refusal_of};
 ghost use Rattle.amqp_lookahead.specs.Members.{place_of as place_in};
 ghost use Rattle.amqp_decoder.specs.State.{IsPlaceOf, refused_at, after_bytes, descriptor_of};
 ghost use Rattle.amqp_decoder.specs.Places.{StandsHere, At, AnswersAt};
-ghost use Rattle.amqp_decoder.specs.Steps.{Answers, Fails, Goes, Tries};
+ghost use Rattle.amqp_decoder.specs.Steps.{Began, Answers, Fails, Goes, Tries};
 ghost use Rattle.amqp_decoder.specs.Reading.{ReadsCode};
 ghost use Rattle.amqp_decoder.specs.Primitives.{AnswersFault};
 ghost use Rattle.amqp_decoder.specs.Reserve.{Spares};
@@ -28,9 +28,40 @@ use std::alloc::Global;
 const PIECE: usize = 256;
 
 impl<R: ByteSource> Decoder<R> {
+    // Takes the code of a described value that may nest where it stands, if the code is at hand. Else nothing is taken, and that says nothing
+    // about what comes next.
+    #[inline(always)]
+    fn quick_descriptor(&mut self) -> Option<()>
+        ensures none { result ≡ None → self.new ≡ self.old }
+        ensures read { IfSome result (λ _. Tells R.remaining → ReadsCode self.old 0 self.new) }
+        ensures few { IfSome result (λ _. length self.new.saved < self.new.nesting) }
+        ensures began { IfSome result (λ _. Began self.old self.new) }
+    {
+        if self.nesting_left() == 0 {
+            return None;
+        }
+        let _code = self.quick::<1>(format_code::DESCRIBED)?;
+        Some(())
+    }
+
     // Takes the code of a described value, which may nest where it stands.
     #[inline(always)]
     fn begin_descriptor(&mut self) -> Result<(), Error>
+        ensures ok { Tells R.remaining → IfOk result (λ _. ReadsCode self.old 0 self.new) }
+        ensures few { IfOk result (λ _. length self.new.saved < self.new.nesting) }
+        ensures err { Tells R.remaining → IfErr result (λ e. AnswersFault false DescribedFault self.old e self.new) }
+        ensures tries { Tries false self.old result self.new }
+        ensures place { IfErr result (λ _. StandsHere self.old self.new) }
+    {
+        match self.quick_descriptor() {
+            Some(()) => Ok(()),
+            None => self.begin_any_descriptor(),
+        }
+    }
+
+    // The same, however the source gives it.
+    #[inline(never)]
+    fn begin_any_descriptor(&mut self) -> Result<(), Error>
         ensures ok { Tells R.remaining → IfOk result (λ _. ReadsCode self.old 0 self.new) }
         ensures few { IfOk result (λ _. length self.new.saved < self.new.nesting) }
         ensures err { Tells R.remaining → IfErr result (λ e. AnswersFault false DescribedFault self.old e self.new) }

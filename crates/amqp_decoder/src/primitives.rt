@@ -18,6 +18,22 @@ impl<R: ByteSource> Decoder<R> {
     // The data of a value that has one constructor.
     #[inline]
     fn fixed<const N: usize>(&mut self, code: u8) -> Result<[u8; N], Error>
+        requires coded { 0 < code }
+        requires few { N < 256 }
+        ensures ok { Tells R.remaining → IfOk result (λ b. ReadsFixed code N self.old b self.new) }
+        ensures err { Tells R.remaining → IfErr result (λ e. AnswersFault false (FixedFault code N) self.old e self.new) }
+        ensures tries { Tries false self.old result self.new }
+        ensures place { IfErr result (λ _. StandsHere self.old self.new) }
+    {
+        match self.element(code) {
+            Some(data) => Ok(data),
+            None => self.any_fixed(code),
+        }
+    }
+
+    // The same, however the source gives it.
+    #[inline]
+    fn any_fixed<const N: usize>(&mut self, code: u8) -> Result<[u8; N], Error>
         requires { N < 256 }
         ensures ok { Tells R.remaining → IfOk result (λ b. ReadsFixed code N self.old b self.new) }
         ensures err { Tells R.remaining → IfErr result (λ e. AnswersFault false (FixedFault code N) self.old e self.new) }
@@ -189,9 +205,34 @@ impl<R: ByteSource> Decoder<R> {
         }
     }
 
+    // The same in an array, if its bytes are at hand and as many as the code of the array has. `None` takes nothing, and says nothing about
+    // what comes next.
+    #[inline(always)]
+    fn uint_element(&mut self) -> Option<u32>
+        ensures none { result ≡ None → self.new ≡ self.old }
+        ensures read { IfSome result (λ v. Tells R.remaining → ReadsValue (Means uint) self.old v self.new) }
+        ensures began { IfSome result (λ _. Began self.old self.new) }
+    {
+        let data = self.element(format_code::UINT)?;
+        Some(u32::from_be_bytes(data))
+    }
+
     // The same, however the source gives it.
     #[inline(never)]
     fn read_any_uint(&mut self) -> Result<u32, Error>
+        ensures read { Tells R.remaining → AnswersRead false (ReadsValue (Means uint)) (PrimitiveFault uints) self.old result self.new }
+        ensures tries { Tries false self.old result self.new }
+        ensures place { IfErr result (λ _. StandsHere self.old self.new) }
+    {
+        match self.uint_element() {
+            Some(value) => Ok(value),
+            None => self.uint_from_start(),
+        }
+    }
+
+    // The same, wherever its bytes are.
+    #[inline(always)]
+    fn uint_from_start(&mut self) -> Result<u32, Error>
         ensures read { Tells R.remaining → AnswersRead false (ReadsValue (Means uint)) (PrimitiveFault uints) self.old result self.new }
         ensures tries { Tries false self.old result self.new }
         ensures place { IfErr result (λ _. StandsHere self.old self.new) }
@@ -271,9 +312,34 @@ impl<R: ByteSource> Decoder<R> {
         }
     }
 
+    // The same in an array, if its bytes are at hand and as many as the code of the array has. `None` takes nothing, and says nothing about
+    // what comes next.
+    #[inline(always)]
+    fn ulong_element(&mut self) -> Option<u64>
+        ensures none { result ≡ None → self.new ≡ self.old }
+        ensures read { IfSome result (λ v. Tells R.remaining → ReadsValue (Means ulong) self.old v self.new) }
+        ensures began { IfSome result (λ _. Began self.old self.new) }
+    {
+        let data = self.element(format_code::ULONG)?;
+        Some(u64::from_be_bytes(data))
+    }
+
     // The same, however the source gives it.
     #[inline(never)]
     fn read_any_ulong(&mut self) -> Result<u64, Error>
+        ensures read { Tells R.remaining → AnswersRead false (ReadsValue (Means ulong)) (PrimitiveFault ulongs) self.old result self.new }
+        ensures tries { Tries false self.old result self.new }
+        ensures place { IfErr result (λ _. StandsHere self.old self.new) }
+    {
+        match self.ulong_element() {
+            Some(value) => Ok(value),
+            None => self.ulong_from_start(),
+        }
+    }
+
+    // The same, wherever its bytes are.
+    #[inline(always)]
+    fn ulong_from_start(&mut self) -> Result<u64, Error>
         ensures read { Tells R.remaining → AnswersRead false (ReadsValue (Means ulong)) (PrimitiveFault ulongs) self.old result self.new }
         ensures tries { Tries false self.old result self.new }
         ensures place { IfErr result (λ _. StandsHere self.old self.new) }

@@ -7,7 +7,7 @@ ghost use Rattle.amqp_lookahead.specs.Kinds.{binaries, strings, symbols};
 ghost use Rattle.amqp_decoder.specs.State.{after_bytes};
 ghost use Rattle.amqp_decoder.specs.Reserve.{Spares};
 ghost use Rattle.amqp_decoder.specs.Places.{StandsHere};
-ghost use Rattle.amqp_decoder.specs.Steps.{Answers, Misses, Goes, Tries};
+ghost use Rattle.amqp_decoder.specs.Steps.{Answers, Misses, Takes, Lacks, Stops, Goes, Tries};
 ghost use Rattle.amqp_decoder.specs.Reading.{AnswersRead};
 ghost use Rattle.amqp_decoder.specs.Primitives.{ReadsSize, SizedFault, ReadsSized, ReadsText, TextFault, AnswersFault, ReadsValue, Means};
 ghost use Rattle.amqp_decoder.specs.Primitives.{PrimitiveFault};
@@ -104,9 +104,35 @@ impl<R: ByteSource> Decoder<R> {
         Ok(text)
     }
 
+    // The next so many bytes of a value.
+    #[inline(always)]
+    fn bytes_of(&mut self, len: u32, alloc: Global) -> Result<Vec<u8>, Error>
+        ensures ok { Tells R.remaining → IfOk result (λ bytes. Takes self.old bytes.items self.new × (length bytes.items ≡ len)) }
+        ensures err { Tells R.remaining → IfErr result (λ e. Stops true (Lacks len self.old) self.old e self.new) }
+        ensures goes { Goes true self.old result self.new }
+    {
+        self.lower(len)?;
+        let mut bytes = Vec::new(alloc);
+        self.keep(len, &mut bytes)?;
+        Ok(bytes)
+    }
+
     // The content of a value that has these two constructors, wherever it refuses.
     #[inline(always)]
     fn content(&mut self, narrow: u8, wide: u8, alloc: Global) -> Result<Vec<u8>, Error>
+        ensures ok { Tells R.remaining → IfOk result (λ text. ReadsText narrow wide self.old text.items self.new) }
+        ensures err { Tells R.remaining → IfErr result (λ e. AnswersFault true (TextFault narrow wide) self.old e self.new) }
+        ensures tries { Tries true self.old result self.new }
+    {
+        match self.quick::<2>(narrow) {
+            Some(head) => self.bytes_of(u32::from(head[1]), alloc),
+            None => self.any_content(narrow, wide, alloc),
+        }
+    }
+
+    // The same, however the source gives it.
+    #[inline(never)]
+    fn any_content(&mut self, narrow: u8, wide: u8, alloc: Global) -> Result<Vec<u8>, Error>
         ensures ok { Tells R.remaining → IfOk result (λ text. ReadsText narrow wide self.old text.items self.new) }
         ensures err { Tells R.remaining → IfErr result (λ e. AnswersFault true (TextFault narrow wide) self.old e self.new) }
         ensures tries { Tries true self.old result self.new }

@@ -1,5 +1,5 @@
 //! How bytes are taken, within those that the open container has left.
-ghost use Rattle.std.specs.Prelude.{◌≤◌, ◌≡◌, ◌<◌, [], ◌∷◌, ◌++◌, length, take, true, false, Ok, Some, None, IfOk, IfErr, cond, ◌^◌, ℕ, ◌↔◌, IsTrue};
+ghost use Rattle.std.specs.Prelude.{◌≤◌, ◌≡◌, ◌<◌, ◌-◌, [], ◌∷◌, ◌++◌, length, take, true, false, Ok, Some, None, IfOk, IfErr, cond, ◌^◌, ℕ, ◌↔◌, IsTrue};
 ghost use Rattle.std.specs.Int.{bytes_high_first};
 ghost use Rattle.amqp_wire.specs.Codes.{refusal_of};
 ghost use Rattle.amqp_wire.specs.declared.error.Error.TheVariants.{Memory};
@@ -126,6 +126,7 @@ impl<R: ByteSource> Decoder<R> {
         ensures taken { Tells R.remaining → result ≡ true → Takes self.old buffer.new self.new }
         ensures left { result ≡ false → self.new ≡ self.old }
         ensures quota { self.new.quota ≡ self.old.quota }
+        ensures levels { self.new.nesting - length self.new.saved ≡ self.old.nesting - length self.old.saved }
         ensures goes { GoesOn self.old self.new }
     {
         if !self.input.pull_ready(buffer) {

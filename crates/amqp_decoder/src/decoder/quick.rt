@@ -1,10 +1,10 @@
 //! The quick way to a value whose bytes are all at hand, as they are in a slice.
-ghost use Rattle.std.specs.Prelude.{◌≡◌, ◌<◌, ◌-◌, ◌∷◌, drop, true, None, IfSome, MatchOption};
+ghost use Rattle.std.specs.Prelude.{◌≡◌, ◌<◌, ◌-◌, ◌∷◌, length, drop, true, None, IfSome, MatchOption};
 ghost use Rattle.amqp_wire.specs.Sources.{Tells};
-ghost use Rattle.amqp_decoder.specs.State.{after_look};
+ghost use Rattle.amqp_decoder.specs.State.{after_look, Has};
 ghost use Rattle.amqp_decoder.specs.Reading.{ReadsCode};
 ghost use Rattle.amqp_decoder.specs.Primitives.{ReadsFixed};
-ghost use Rattle.amqp_decoder.specs.Quick.{IsPlain};
+ghost use Rattle.amqp_decoder.specs.Quick.{IsPlain, IsElement};
 ghost use Rattle.amqp_decoder.specs.Reserve.{Shows};
 ghost use Rattle.amqp_decoder.specs.Steps.{Began, GoesOn};
 
@@ -12,16 +12,23 @@ use super::Decoder;
 use amqp_wire::ByteSource;
 
 impl<R: ByteSource> Decoder<R> {
+    // Nothing was refused, a value is left, and one more may begin.
+    #[inline(always)]
+    fn may_begin(&self) -> bool
+        ensures going { result ≡ true → self.now.error ≡ None }
+        ensures item { result ≡ true → Has self.now.top.items 1 }
+        ensures few { result ≡ true → Has self.now.quota 1 }
+    {
+        self.check().is_ok() && !self.is_done() && !self.passes_items(1)
+    }
+
     // Nothing was refused, a value is left that shares no constructor, and one more may begin.
     #[inline(always)]
     pub(super) fn is_plain(&self) -> bool
         ensures { result ≡ true → IsPlain self.now }
     {
         // In an array nothing is plain, so that comes first.
-        self.shared_code().is_none()
-            && self.check().is_ok()
-            && !self.is_done()
-            && !self.passes_items(1)
+        self.shared_code().is_none() && self.may_begin()
     }
 
     // The next byte, which isn't taken, if it is at hand.
@@ -74,6 +81,7 @@ impl<R: ByteSource> Decoder<R> {
         requires few { N < 256 }
         ensures none { result ≡ None → self.new ≡ self.old }
         ensures read { IfSome result (λ bytes. Tells R.remaining → ReadsFixed code (N - 1) self.old (drop 1 bytes) self.new) }
+        ensures levels { IfSome result (λ _. self.new.nesting - length self.new.saved ≡ self.old.nesting - length self.old.saved) }
         ensures began { IfSome result (λ _. Began self.old self.new) }
     {
         match self.plain_code() {
@@ -92,9 +100,44 @@ impl<R: ByteSource> Decoder<R> {
         requires next { self.old.rest ≡ code ∷ drop 1 self.old.rest }
         ensures none { result ≡ None → self.new ≡ self.old }
         ensures read { IfSome result (λ bytes. Tells R.remaining → ReadsFixed code (N - 1) self.old (drop 1 bytes) self.new) }
+        ensures levels { IfSome result (λ _. self.new.nesting - length self.new.saved ≡ self.old.nesting - length self.old.saved) }
         ensures began { IfSome result (λ _. Began self.old self.new) }
     {
         if !self.has_left(N as u32) {
+            return None;
+        }
+        let mut bytes = [0; N];
+        if !self.take_ready(&mut bytes) {
+            return None;
+        }
+        self.take_item();
+        self.count_begun(code);
+        Some(bytes)
+    }
+
+    // An item is left in an array whose items have this code and no descriptor, nothing was refused, and one more may begin.
+    #[inline(always)]
+    fn is_element(&self, code: u8) -> bool
+        requires { 0 < code }
+        ensures { result ≡ true → IsElement code self.now }
+    {
+        match self.shared_code() {
+            Some(shared) => shared == code && self.may_begin(),
+            None => false,
+        }
+    }
+
+    // The N bytes of an array's item, whose code is this one, if they are at hand. Else nothing is taken, and that says nothing about the
+    // value.
+    #[inline(always)]
+    pub(crate) fn element<const N: usize>(&mut self, code: u8) -> Option<[u8; N]>
+        requires some { 0 < code }
+        requires few { N < 256 }
+        ensures none { result ≡ None → self.new ≡ self.old }
+        ensures read { IfSome result (λ bytes. Tells R.remaining → ReadsFixed code N self.old bytes self.new) }
+        ensures began { IfSome result (λ _. Began self.old self.new) }
+    {
+        if !self.is_element(code) || !self.has_left(N as u32) {
             return None;
         }
         let mut bytes = [0; N];

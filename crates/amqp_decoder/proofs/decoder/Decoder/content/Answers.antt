@@ -1,26 +1,19 @@
-use Rattle.std.proofs.Common.{rules}
-use Rattle.std.proofs.lemmas.Result.{err_from_is_err_and}
-use Rattle.amqp_decoder.proofs.ReadPrimitives.{err_map}
-use Rattle.amqp_decoder.proofs.SizedTexts.{text_unbegun, text_other, text_narrow, text_wide}
-use Rattle.amqp_decoder.proofs.Steps.{answered_so}
+use Rattle.std.proofs.Common.{rules, arith, ◌<◌, get_or}
+use Rattle.amqp_decoder.proofs.ReadPrimitives.{ok_map, err_map}
+use Rattle.amqp_decoder.proofs.QuickTexts.{quick_head, quick_text, quick_text_cut, tried_second}
 use Rattle.amqp_decoder.proofs.decoder.Decoder.content.Goals as goal
 
-pub returns-in_err-code-clause-err : goal.returns-in_err-code-clause-err
-returns-in_err-code-clause-err g c = λ told.
-    let p = err_from_is_err_and c.from_residual.result c.from_residual.ensures.1 in
-    rw (p.1, p.2) (text_unbegun _ _ _ _ _ (c.in_err-code.ensures.read told))
+pub returns-in-Some-clause-ok : goal.returns-in-Some-clause-ok
+returns-in-Some-clause-ok g c = λ told.
+    let byte : get_or c.in-Some.head 1 0 < 256 = search rules in
+    let head = quick_head _ _ c.in-Some.head _ _ c.from.ensures (c.in-Some.ensures.read told) in
+    ok_map _ _ _ (λ text t. quick_text _ _ _ _ _ _ _ (omega (arith, c.from.ensures, byte)) head t) (c.bytes_of.ensures.ok told)
 
-pub returns-then-code-narrow-clause-err : goal.returns-then-code-narrow-clause-err
-returns-then-code-narrow-clause-err g c =
-    λ told. err_map _ _ _ (λ e s. text_narrow _ _ _ _ _ _ (rw c.if-code-narrow.true at (c.in_ok-code.ensures.read told)) s)
-    (c.text_data.ensures.err told)
+pub returns-in-Some-clause-err : goal.returns-in-Some-clause-err
+returns-in-Some-clause-err g c = λ told.
+    let byte : get_or c.in-Some.head 1 0 < 256 = search rules in
+    let head = quick_head _ _ c.in-Some.head _ _ c.from.ensures (c.in-Some.ensures.read told) in
+    err_map _ _ _ (λ e s. quick_text_cut _ _ _ _ _ _ _ (omega (arith, c.from.ensures, byte)) head s) (c.bytes_of.ensures.err told)
 
-pub returns-then-code-wide-clause-err : goal.returns-then-code-wide-clause-err
-returns-then-code-wide-clause-err g c =
-    λ told. err_map _ _ _ (λ e s. text_wide _ _ _ _ _ _ (rw c.if-code-wide.true at (c.in_ok-code.ensures.read told)) s)
-    (c.text_data-then-code-wide.ensures.err told)
-
-pub returns-else-code-wide-clause-err : goal.returns-else-code-wide-clause-err
-returns-else-code-wide-clause-err g c =
-    λ told. text_other _ _ _ _ _ _ _ (c.in_ok-code.ensures.read told) (search rules) (search rules) c.refuse_code.ensures.answer
-    (answered_so _ _ _ c.refuse_code.ensures.kept)
+pub returns-in-Some-clause-tries : goal.returns-in-Some-clause-tries
+returns-in-Some-clause-tries g c = tried_second _ _ c.quick.new.self _ _ c.in-Some.ensures.began c.bytes_of.ensures.goes

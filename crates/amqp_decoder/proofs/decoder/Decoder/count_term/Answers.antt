@@ -1,6 +1,5 @@
-use Rattle.std.proofs.Common.{◌≡◌, false}
+use Rattle.std.proofs.Common.{false}
 use Rattle.amqp_model.specs.Measures.{weight}
-use Rattle.amqp_wire.specs.declared.error.Error.TheVariants.{Limit}
 use Rattle.amqp_decoder.proofs.Counts.{capped_ok, capped_err}
 use Rattle.amqp_decoder.proofs.decoder.Decoder.count_term.Goals as goal
 

@@ -1,4 +1,3 @@
-use Rattle.std.proofs.Common.{Some}
 use Rattle.amqp_decoder.specs.Described.{TakesDescriptor}
 use Rattle.amqp_decoder.specs.State.{descriptor_of}
 use Rattle.amqp_decoder.proofs.Places.{placed_ok, placed_missed, placed_goes, placed_there}

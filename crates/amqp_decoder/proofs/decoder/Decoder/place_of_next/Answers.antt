@@ -1,4 +1,3 @@
-use Rattle.std.proofs.Common.{Some}
 use Rattle.amqp_decoder.specs.Described.{TakesPlace}
 use Rattle.amqp_decoder.proofs.Places.{placed_ok, placed_missed, placed_goes, placed_there}
 use Rattle.amqp_decoder.proofs.decoder.Decoder.place_of_next.Goals as goal

@@ -1,0 +1,18 @@
+use Rattle.amqp_decoder.specs.Primitives.{ReadsFixed}
+use Rattle.amqp_decoder.proofs.Places.{placed_ok, placed_fault, placed_tries, placed_here}
+use Rattle.amqp_decoder.proofs.decoder.Decoder.any_fixed.Goals as goal
+
+pub returns-clause-ok : goal.returns-clause-ok
+returns-clause-ok g c = λ told. rw (c.placed.ensures.same, c.placed.ensures.kept)
+    (placed_ok (ReadsFixed _ _ _) _ _ _ (c.fixed_data-answer.ensures.ok told))
+
+pub returns-clause-err : goal.returns-clause-err
+returns-clause-err g c = λ told. rw (c.placed.ensures.same, c.placed.ensures.kept)
+    (placed_fault _ _ _ _ _ _ c.start-start.ensures (c.fixed_data-answer.ensures.err told))
+
+pub returns-clause-tries : goal.returns-clause-tries
+returns-clause-tries g c = rw (c.placed.ensures.same, c.placed.ensures.kept)
+    (placed_tries _ _ _ _ _ c.start-start.ensures c.fixed_data-answer.ensures.tries)
+
+pub returns-clause-place : goal.returns-clause-place
+returns-clause-place g c = rw (c.placed.ensures.same, c.placed.ensures.kept) (placed_here _ _ _ _ c.start-start.ensures)
