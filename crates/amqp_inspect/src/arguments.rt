@@ -1,5 +1,5 @@
 //! The program's arguments.
-use crate::limits::Bounds;
+use amqp_blocks::{Bounds, Form, Options};
 use amqp_lines::TypeName;
 use anyhow::bail;
 use clap::{Arg, ArgGroup, ArgMatches, Command, arg, value_parser};
@@ -14,16 +14,6 @@ const AFTER_HELP: &str = "Without an option for what the input is, its first byt
 
 The status is 0 if all is well, 1 if there is a fault, and 2 if the arguments are wrong.";
 
-/// What the input is.
-#[derive(Clone, Copy, Debug, PartialEq, Eq)]
-pub(crate) enum Form {
-    Frames,
-    Message,
-    Strict,
-    Term,
-    Type(TypeName),
-}
-
 /// What is printed.
 #[derive(Clone, Copy, Debug, PartialEq, Eq)]
 pub(crate) enum Answer {
@@ -34,12 +24,11 @@ pub(crate) enum Answer {
 
 /// What the arguments ask for.
 #[derive(Clone, Copy, Debug, PartialEq, Eq)]
-pub(crate) struct Options {
-    pub(crate) form: Option<Form>,
+pub(crate) struct Arguments {
     pub(crate) hex: bool,
     pub(crate) answer: Answer,
-    pub(crate) max_frame_size: u32,
-    pub(crate) bounds: Bounds,
+    /// What the input is to be read as.
+    pub(crate) options: Options,
 }
 
 /// Returns the command line of the program. The names are those that `--type` takes.
@@ -115,15 +104,17 @@ fn with_limits<'a>(command: Command<'a>, alloc: Global) -> Result<Command<'a>, A
     command.arg(max_frame)?.arg(nesting)?.arg(bytes)?.arg(items)
 }
 
-impl Options {
+impl Arguments {
     /// Returns what the matches of the command line ask for.
-    pub(crate) fn new(matches: &ArgMatches<'_>) -> Result<Options, anyhow::Error> {
-        Ok(Options {
-            form: form_of(matches)?,
+    pub(crate) fn new(matches: &ArgMatches<'_>) -> Result<Arguments, anyhow::Error> {
+        Ok(Arguments {
             hex: matches.get_flag("hex"),
             answer: answer_of(matches),
-            max_frame_size: matches.get_one::<u32>("max-frame").unwrap_or(u32::MAX),
-            bounds: bounds_of(matches),
+            options: Options {
+                form: form_of(matches)?,
+                max_frame_size: matches.get_one::<u32>("max-frame").unwrap_or(u32::MAX),
+                bounds: bounds_of(matches),
+            },
         })
     }
 }

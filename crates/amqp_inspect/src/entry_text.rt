@@ -1,15 +1,10 @@
 //! The entries of a block as lines of text.
-use crate::block::{Part, Span};
-use crate::canonical::{Head, Longer, longer_descriptor, longer_head};
 use crate::colours::Colours;
-use crate::defaults::default_of;
-use crate::described::{field_name, name_of};
-use crate::entry::{Entry, Label, Shape};
-use crate::kinds::type_name;
-use crate::meanings::meaning;
-use crate::numbers::{is_true, unsigned};
-use crate::quoted::write_digits;
-use crate::value_text::write_value;
+use crate::part::Part;
+use amqp_blocks::{
+    Entry, Head, Label, Longer, Shape, Span, default_of, field_name, is_true, longer_descriptor,
+    longer_head, meaning, name_of, type_name, unsigned, write_digits, write_value,
+};
 use amqp_kinds::Kind;
 use std::alloc::AllocError;
 use std::fmt::Write;

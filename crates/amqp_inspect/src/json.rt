@@ -3,9 +3,9 @@ ghost use Rattle.std.specs.Prelude.{IfOk, string_bytes};
 ghost use Rattle.serde_json.specs.Data.{Data};
 ghost use Rattle.serde_json.specs.Written.{IsInOrder};
 
-use crate::block::{Block, Part, Span, Subject};
-use crate::fault::Fault;
 use crate::json_entries::json_of_entries;
+use crate::part::Part;
+use amqp_blocks::{Block, Fault, Span, Subject};
 use amqp_frames::{FrameKind, ProtocolHeader, ProtocolId};
 use serde_json::{Map, Value, put};
 use std::alloc::{AllocError, Global};

@@ -1,13 +1,11 @@
 //! The entries of a block as values of JSON, each with those that are in it.
-use crate::block::Part;
-use crate::canonical::{Head, Longer, longer_descriptor, longer_head};
-use crate::defaults::default_of;
-use crate::described::{Content, field_name, name_of};
-use crate::entry::{Entry, Label, Shape};
 use crate::json::{put_span, put_text};
 use crate::json_value::json_of_value;
-use crate::kinds::type_name;
-use crate::quoted::write_digits;
+use crate::part::Part;
+use amqp_blocks::{
+    Content, Entry, Head, Label, Longer, Shape, default_of, field_name, longer_descriptor,
+    longer_head, name_of, type_name, write_digits,
+};
 use serde_json::{Map, Value, put};
 use std::alloc::{AllocError, Global};
 use std::fmt::Write;

@@ -6,49 +6,30 @@
 #![tactic(auto)]
 
 mod arguments;
-mod block;
-mod broken;
-mod canonical;
 mod colours;
-mod defaults;
-mod described;
 mod digits;
-mod entry;
 mod entry_text;
-mod fault;
-mod frames;
 mod html;
 mod input;
 mod json;
 mod json_entries;
 mod json_value;
-mod kinds;
-mod limits;
-mod meanings;
-mod message;
-mod message_types;
-mod numbers;
-mod outline;
 mod page;
-mod path;
+mod part;
 mod printer;
 mod progress;
-mod quoted;
-mod source;
-mod term;
 mod text;
-mod value_text;
 
-use arguments::Options;
+use amqp_blocks::{Source, names};
+use arguments::Arguments;
 use input::{Input, PIECE};
 use printer::Printer;
-use source::Source;
 use std::env;
 use std::process::ExitCode;
 
 fn main(rt: HostRuntime) -> Result<ExitCode, anyhow::Error> {
     let words: Vec<String> = env::args(&rt)?.collect(rt.alloc())?;
-    let names = described::names(rt.alloc())?;
+    let names = names(rt.alloc())?;
     let command = arguments::command(names.as_slice(), rt.alloc())?;
     let matches = match command.try_get_matches_from(words.as_slice()) {
         Ok(matches) => matches,
@@ -57,8 +38,8 @@ fn main(rt: HostRuntime) -> Result<ExitCode, anyhow::Error> {
             return Ok(ExitCode::from(error.exit_code() as u8));
         }
     };
-    let options = Options::new(&matches)?;
-    if inspect(&rt, &options)? {
+    let arguments = Arguments::new(&matches)?;
+    if inspect(&rt, &arguments)? {
         Ok(ExitCode::SUCCESS)
     } else {
         Ok(ExitCode::FAILURE)
@@ -66,16 +47,16 @@ fn main(rt: HostRuntime) -> Result<ExitCode, anyhow::Error> {
 }
 
 // Prints the blocks of the input, and returns whether none has a fault.
-fn inspect(rt: &HostRuntime, options: &Options) -> Result<bool, anyhow::Error> {
+fn inspect(rt: &HostRuntime, arguments: &Arguments) -> Result<bool, anyhow::Error> {
     let mut reader = rt.reader();
     let mut piece = vec![in rt.alloc(); 0u8; PIECE]?;
-    let mut input = Input::new(options.hex, rt.alloc());
-    let mut printer = Printer::new(rt, options.answer);
+    let mut input = Input::new(arguments.hex, rt.alloc());
+    let mut printer = Printer::new(rt, arguments.answer);
     let mut source = None;
     printer.begin(rt)?;
     for _ in 0..u64::MAX {
         if source.is_none() {
-            source = Source::new(options, input.rest(), input.is_end(), rt.alloc())?;
+            source = Source::new(&arguments.options, input.rest(), input.is_end(), rt.alloc())?;
         }
         if let Some(source) = &mut source {
             printer.print(rt, source, &mut input)?;

@@ -1,14 +1,13 @@
 //! What is printed of the blocks, one after another.
 use crate::arguments::Answer;
-use crate::block::{Block, Part};
-use crate::canonical::saving_of;
 use crate::colours::Colours;
 use crate::html::write_element;
 use crate::input::{Input, PIECE};
 use crate::json::json_of_block;
+use crate::part::Part;
 use crate::progress::Progress;
-use crate::source::Source;
 use crate::{page, text};
+use amqp_blocks::{Block, Source, saving_of};
 use std::alloc::Global;
 use std::fmt::Write as _;
 use std::io;

@@ -1,11 +1,8 @@
 //! Blocks as text.
-use crate::block::{Block, Part, Span, Subject};
 use crate::colours::Colours;
-use crate::described::name_of;
-use crate::entry::{Entry, Shape};
 use crate::entry_text::{write_entries, write_span};
-use crate::fault::Fault;
-use crate::quoted::write_digits;
+use crate::part::Part;
+use amqp_blocks::{Block, Entry, Fault, Shape, Span, Subject, name_of, write_digits};
 use amqp_frames::{FrameKind, ProtocolHeader, ProtocolId};
 use std::alloc::AllocError;
 use std::fmt::Write;

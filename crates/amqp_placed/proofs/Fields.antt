@@ -12,11 +12,11 @@ use Rattle.amqp_decoder.specs.Places.{Located}
 use Rattle.amqp_codec.specs.Fields.{Fields, none, field}
 use Rattle.amqp_codec.specs.FieldReading.{absence, rule_at, FaultAt, ItemFault, no_item, null_item, in_item, FieldsFault, no_list}
 use Rattle.amqp_codec.specs.FieldReading.{at_item, left_out, not_ended}
-use Rattle.amqp_placed.specs.Facing.{bytes_open, Faces, Shows, AreShown, IsAt, Inputs, IsAhead}
+use Rattle.amqp_placed.specs.Facing.{bytes_open, Faces, Shows, AreShown, Inputs, IsAhead}
 use Rattle.amqp_placed.specs.Shown.{FieldsShown}
 use Rattle.amqp_placed.proofs.Here.{wrong_as, here_shows, begin_shown, peeked_shown}
 use Rattle.amqp_placed.proofs.Opening.{open_shown}
-use Rattle.amqp_placed.proofs.Inside.{in_row, inside_shows}
+use Rattle.amqp_placed.proofs.Inside.{IsAt, in_row, inside_shows}
 use Rattle.amqp_placed.proofs.Ends.{closing_shown}
 use Rattle.amqp_placed.proofs.Wholes.{null_next}
 

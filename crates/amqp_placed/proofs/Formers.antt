@@ -14,7 +14,6 @@ use Rattle.amqp_codec.specs.EitherMeaning.{EitherFault, no_value, in_first, in_s
 use Rattle.amqp_codec.specs.Members as members
 use Rattle.amqp_codec.specs.Members.{Members, MemberFault, no_member, in_member}
 use Rattle.amqp_placed.specs.Facing.{AreShown, Inputs}
-use Rattle.amqp_placed.specs.Shown.{AreTerms}
 use Rattle.amqp_placed.proofs.Here.{begin_shown, peeked_shown}
 use Rattle.amqp_placed.proofs.Descriptions.{no_member_shown, described_shown}
 
@@ -29,6 +28,10 @@ described_ends st inner last d t e o next (nothing_open none is) =
     omega (arith, saved, ap length none)
 described_ends st inner last d t e o next (items_left open_ some is) =
     some (ap (λ (x : State). x.top.items) next.moved ∙ ap (λ (x : State). lower x.top.items 1) o.opened ∙ ap Some (omega arith))
+
+-- What is read behind the descriptor of a member is one term.
+abbrev pub AreTerms : {V : Type 0} → Members V → Type 0
+AreTerms {V} m = (i : ℕ) (inner : State) (v : V) (last : State) → m.reads i inner v last → (t : Term) × Next inner t last
 
 module _ (inputs : Inputs) (e : Error) where
   pub option_shown : (fault : State → Located → Type 0) → AreShown inputs e fault → AreShown inputs e (OptionFault fault)

@@ -13,10 +13,14 @@ use Rattle.amqp_kinds.specs.KindMembers.{KindMembers, no_more, member, faults_at
 use Rattle.amqp_message_headers.specs.MessageIds.{id_members, id_place, message_id_type}
 use Rattle.amqp_message_headers.specs.Tables.{header, properties}
 use Rattle.amqp_placed.specs.Facing.{AreShown, Inputs}
-use Rattle.amqp_placed.specs.Shown.{KindsShown}
 use Rattle.amqp_placed.proofs.Here.{begin_shown, peeked_shown}
 use Rattle.amqp_placed.proofs.Primitives.{primitive_shown}
 use Rattle.amqp_placed.proofs.Composites.{composite_shown}
+
+-- Of each primitive type of a sum, that its faults are shown.
+abbrev pub KindsShown : {V : Type 0} → Inputs → Error → KindMembers V → Type 0
+KindsShown inputs e no_more = Unit {0}
+KindsShown inputs e (member m make ms) = AreShown inputs e m.type.faults.fault × KindsShown inputs e ms
 
 module _ (inputs : Inputs) (e : Error) where
   kinds_shown : {V : Type 0} (ms : KindMembers V) → KindsShown inputs e ms → (i : ℕ) → AreShown inputs e (faults_at ms i).fault

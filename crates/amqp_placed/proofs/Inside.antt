@@ -18,7 +18,7 @@ use Rattle.amqp_decoder.specs.Places.{Located}
 use Rattle.amqp_decoder.proofs.Steps.{lower_none}
 use Rattle.amqp_decoder.proofs.ReadPrimitives.{lower-lower}
 use Rattle.amqp_decoder.proofs.Rooms.{room_row, room_inside}
-use Rattle.amqp_placed.specs.Facing.{up_to, bytes_open, IsAround, IsNext, Faces, Shows, IsShown, IsAt, Inputs, IsMeant, IsAhead}
+use Rattle.amqp_placed.specs.Facing.{up_to, bytes_open, IsAround, IsNext, Faces, Shows, IsShown, Inputs, IsMeant, IsAhead}
 use Rattle.amqp_placed.proofs.Past.{Past, past_code, past_taken, past_value, past_none, past_both, has_bound, past_bytes, lowered_bound}
 use Rattle.amqp_placed.proofs.Past.{ahead_there, meant_there, past_meant}
 use Rattle.amqp_placed.proofs.Past.{lowered_sum, past_length, past_around, past_unlimited}
@@ -97,6 +97,10 @@ entered_around m n content place around inner room h told = go around inner h to
     go cut_one inner (l, some, there) told =
         let sum = lowered_sum (bound_of m.top) (lower (bound_of m.top) content) content l (bytes_left m.saved) some room refl in
         (content, refl, omega (arith, all, sum, there))
+
+-- The piece is the item of a number of a list or map of n items, from 0 on, or its end.
+abbrev pub IsAt : Container → ℕ → ℕ → Piece → Type 0
+IsAt kind n k P = ((k < n) × (P ≡ an_item kind n k)) ⊎ ((k ≡ n) × (P ≡ an_end kind n))
 
 -- An item of the container, or its end.
 record Within (kind : Container) (n k d : ℕ) (left : Option ℕ) : Type 0 where

@@ -1,10 +1,10 @@
 -- Where a decoder stands in its input, and that a fault of what it reads there is one over bytes alone.
 use Rattle.std.specs.Prelude.{◌≡◌, ℕ, zero, ◌+◌, ◌<◌, ◌≤◌, ◌⊎◌, List, [], ◌∷◌, length, take, Option, Some, None}
-use Rattle.amqp_model.specs.Term.{Container, Descriptor}
+use Rattle.amqp_model.specs.Term.{Descriptor}
 use Rattle.amqp_model.specs.Constructors.{format}
 use Rattle.amqp_model.specs.Spelling.{IsKnown}
 use Rattle.amqp_wire.specs.declared.error.Error.{Error}
-use Rattle.amqp_lengths.specs.Stands.{Piece, an_item, an_element, an_end, Around, unbounded, whole_one, cut_one, IsOwn, IsEnd, StandsFrom}
+use Rattle.amqp_lengths.specs.Stands.{Piece, an_element, Around, unbounded, whole_one, cut_one, IsOwn, IsEnd, StandsFrom}
 use Rattle.amqp_decoder.specs.State.{State, bound_of, bytes_left, announced}
 use Rattle.amqp_decoder.specs.Rooms.{HasFlatItems, HasRoom}
 use Rattle.amqp_decoder.specs.Places.{Located}
@@ -75,7 +75,3 @@ IsShown inputs st f = (P : Piece) (d : ℕ) (around : Around) → IsAhead inputs
 -- Each fault by this error is.
 abbrev pub AreShown : Inputs → Error → (State → Located → Type 0) → Type 0
 AreShown inputs e fault = (st : State) (f : Located) → f.error ≡ e → fault st f → IsShown inputs st f
-
--- The piece is the item of a number of a list or map of n items, from 0 on, or its end.
-abbrev pub IsAt : Container → ℕ → ℕ → Piece → Type 0
-IsAt kind n k P = ((k < n) × (P ≡ an_item kind n k)) ⊎ ((k ≡ n) × (P ≡ an_end kind n))

@@ -1,16 +1,9 @@
 -- What has to be shown of the parts of a type.
-use Rattle.std.specs.Prelude.{ℕ}
-use Rattle.amqp_model.specs.Term.{Term}
 use Rattle.amqp_wire.specs.declared.error.Error.{Error}
 use Rattle.amqp_wire.specs.declared.error.Error.TheVariants.{Cut, UnknownCode, FloatCode, Size, Depth, ZeroWidthItems, NonAscii}
 use Rattle.amqp_wire.specs.declared.error.Error.TheVariants.{BadDescriptor, Limit}
-use Rattle.amqp_decoder.specs.State.{State}
-use Rattle.amqp_decoder.specs.Items.{Next}
 use Rattle.amqp_codec.specs.Fields.{Fields, none, field}
-use Rattle.amqp_codec.specs.Members.{Members}
 use Rattle.amqp_sums.specs.Choices.{Choices, no_more, member}
-use Rattle.amqp_kinds.specs.KindMembers as kinds
-use Rattle.amqp_kinds.specs.KindMembers.{KindMembers}
 use Rattle.amqp_placed.specs.Facing.{Inputs, any_input, without_arrays, AreShown}
 
 -- Of each field, that its faults by this error are shown.
@@ -18,19 +11,10 @@ abbrev pub FieldsShown : {V : Type 0} → Inputs → Error → Fields V → Type
 FieldsShown inputs e none = Unit {0}
 FieldsShown inputs e (field get f fs) = AreShown inputs e f.faults.fault × FieldsShown inputs e fs
 
--- What is read behind the descriptor of a member is one term.
-abbrev pub AreTerms : {V : Type 0} → Members V → Type 0
-AreTerms {V} m = (i : ℕ) (inner : State) (v : V) (last : State) → m.reads i inner v last → (t : Term) × Next inner t last
-
 -- Of each member of a sum, that those of its fields are.
 abbrev pub ChoicesShown : {V : Type 0} → Inputs → Error → Choices V → Type 0
 ChoicesShown inputs e no_more = Unit {0}
 ChoicesShown inputs e (member c make cs) = FieldsShown inputs e c.fields × ChoicesShown inputs e cs
-
--- Of each primitive type of a sum, that its faults are.
-abbrev pub KindsShown : {V : Type 0} → Inputs → Error → KindMembers V → Type 0
-KindsShown inputs e kinds.no_more = Unit {0}
-KindsShown inputs e (kinds.member m make ms) = AreShown inputs e m.type.faults.fault × KindsShown inputs e ms
 
 -- The errors that the constructor of an array's items never has (Part 1, section 1.2.4).
 abbrev pub IsOfNoConstructor : Error → Type 0

@@ -1,0 +1,78 @@
+-- What is told of a block is in its bytes, and each byte of a frame belongs to one part of it.
+use Rattle.std.specs.Prelude.{◌≡◌, ◌⊎◌, ℕ, ◌<◌, ◌≤◌, Bool, false, List, length, Option, IfSome, MatchOption}
+use Rattle.std.specs.List.{All}
+use Rattle.amqp_wire.specs.declared.refusal.Refusal.{Refusal}
+use Rattle.amqp_blocks.specs.declared.block.Block.{Block}
+use Rattle.amqp_blocks.specs.declared.block.Subject.{Subject}
+use Rattle.amqp_blocks.specs.declared.block.Subject.TheVariants.{ProtocolHeader, Frame, NoFrame, CutFrame, Section, Term, Rest}
+use Rattle.amqp_blocks.specs.declared.fault.Fault.{Fault}
+use Rattle.amqp_blocks.specs.declared.frames.Performed.{Performed}
+use Rattle.amqp_blocks.specs.declared.frames.Performed.TheVariants.{WithMessage, Other, Refused}
+use Rattle.amqp_blocks.specs.declared.message.Sections.{Sections}
+use Rattle.amqp_blocks.specs.declared.source.Source.{Source}
+use Rattle.amqp_blocks.specs.declared.source.Source.TheVariants as source
+use Rattle.amqp_blocks.specs.Spans.{IsOutline}
+
+-- The fault is at one of the first n bytes, or at their end.
+abbrev pub StandsWithin : ℕ → Fault → Type 0
+StandsWithin n fault = fault.at ≤ n
+
+-- The block has n bytes. Its value is from the place l to the place m, the sections of its payload come behind that, and its faults are in it.
+pub record IsBlock (s : Subject) (l m n : ℕ) (b : Block) : Type 0 where
+  pub subject : b.subject ≡ s
+  pub len : b.len ≡ n
+  pub value : IsOutline l m b.value.items
+  pub message : IsOutline m n b.message.items
+  pub faults : All (StandsWithin n) b.faults.items
+
+-- The span is from one place to the other, and there is none if no byte is there.
+abbrev pub IsTile : ℕ → ℕ → Option (ℕ × ℕ) → Type 0
+IsTile from to span = MatchOption span (to ≤ from) (λ s. (s.0 ≡ from) × (s.1 ≡ to) × (from < to))
+
+-- A frame is its header of eight bytes, the extended header, the value and the payload.
+abbrev pub IsTiled : Subject → (l m : ℕ) → Block → Type 0
+IsTiled (Frame kind) l m b = (8 ≤ l) × IsTile 8 l b.extended × IsTile m b.len b.payload
+IsTiled (ProtocolHeader header) l m b = Unit {0}
+IsTiled NoFrame l m b = Unit {0}
+IsTiled CutFrame l m b = Unit {0}
+IsTiled Section l m b = Unit {0}
+IsTiled Term l m b = Unit {0}
+IsTiled Rest l m b = Unit {0}
+
+-- The block has n bytes, and its value begins at the place l.
+abbrev pub HasValue : (l n : ℕ) → Block × ℕ → Type 0
+HasValue l n found = (l ≤ found.1) × (found.1 ≤ n) × IsBlock NoFrame l found.1 n found.0
+
+-- The same, and its payload is all that is behind its value.
+abbrev pub HasBody : (l n : ℕ) → Block → Type 0
+HasBody l n b = (m : ℕ) × (l ≤ m) × (m ≤ n) × IsBlock NoFrame l m n b × IsTile m n b.payload
+
+-- The block is of the first bytes of the input.
+pub record BeginsInput (input : List ℕ) (b : Block) : Type 0 where
+  pub from : ℕ
+  pub to : ℕ
+  pub order : from ≤ to
+  pub ends : to ≤ b.len
+  pub within : b.len ≤ length input
+  pub is : IsBlock b.subject from to b.len b
+  pub tiled : IsTiled b.subject from to b
+
+-- There is no block to come: there are no bytes, or more of them may come.
+abbrev pub IsAllTold : List ℕ → Bool → Type 0
+IsAllTold input is_end = (length input ≡ 0) ⊎ (is_end ≡ false)
+
+-- The fault that has not been told yet is in the n bytes that come next, or at their end.
+abbrev pub IsAhead : ℕ → Sections → Type 0
+IsAhead n s = IfSome s.fault (StandsWithin n)
+
+-- The same of what the input is
+abbrev pub IsNext : ℕ → Source → Type 0
+IsNext n (source.Frames frames) = Unit {0}
+IsNext n (source.Message sections) = IsAhead n sections
+IsNext n (source.Term term) = Unit {0}
+
+-- P of why there is no performative, if there is none
+abbrev pub IfRefused : (Refusal → Type 0) → Performed → Type 0
+IfRefused P WithMessage = Unit {0}
+IfRefused P Other = Unit {0}
+IfRefused P (Refused refusal) = P refusal
