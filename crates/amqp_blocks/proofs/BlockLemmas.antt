@@ -1,5 +1,6 @@
 -- Blocks begin the input that they are made of.
-use Rattle.std.proofs.Common.{◌≡◌, ℕ, ◌≤◌, ◌-◌, ◌*◌, ◌∙◌, min, take, drop, List, length, Option, Some, None, IfSome, unwrap_or, refl, sym, ap, subst, arith, Result, Ok, Err, IfOk}
+use Rattle.std.proofs.Common.{◌≡◌, ℕ, Bool, ◌≤◌, ◌-◌, ◌*◌, ◌∙◌, min, take, drop, List, length, Option, Some, None, IfSome, unwrap_or, refl, sym, ap, subst, arith, Result, Ok, Err, IfOk, inl}
+use Rattle.std.specs.Prelude.{IfNone}
 use Rattle.std.proofs.lemmas.List.{length-take, length-drop}
 use Rattle.amqp_frames.specs.FrameErrors.{place_of}
 use Rattle.amqp_frames.specs.Frames.{BeginsWithFrame, data_offset_of, size_of}
@@ -11,7 +12,7 @@ use Rattle.amqp_frames.specs.declared.frame_error.FrameError.TheVariants.{SizeBe
 use Rattle.amqp_frames.specs.declared.frame_error.FrameError.TheVariants.{DataOffsetPastSize, UnknownType, SaslAboveLimit, NotProtocolHeader}
 use Rattle.amqp_blocks.specs.declared.block.Block.{Block}
 use Rattle.amqp_blocks.specs.declared.block.Subject.{Subject}
-use Rattle.amqp_blocks.specs.Blocks.{IsBlock, IsTiled, BeginsInput}
+use Rattle.amqp_blocks.specs.Blocks.{IsBlock, IsTiled, BeginsInput, IsAllTold}
 
 pub block_begins : (s : Subject) (l m n : ℕ) (b : Block) (input : List ℕ) → IsBlock s l m n b → l ≤ m → m ≤ n → n ≤ length input
     → IsTiled s l m b → BeginsInput input b
