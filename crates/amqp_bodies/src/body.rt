@@ -8,11 +8,15 @@ ghost use Rattle.amqp_sections.specs.Sections.{data_naming, in_data, sequence_na
 ghost use Rattle.amqp_batches.specs.RepeatedSections.{data_section, sequence_section};
 ghost use Rattle.amqp_bodies.specs.BodyRewriting.{NoBodyFollows};
 ghost use Rattle.amqp_bodies.specs.BodySections.{again_as_body, IsReadAsBody, IsSome, value_section, any_body_rewrites};
-ghost use Rattle.amqp_bodies.specs.BodySections.{empty_body, body_made, any_body_bound};
+ghost use Rattle.amqp_bodies.specs.BodySections.{empty_body, body_making, body_laws, any_body_bound};
 ghost use Rattle.amqp_codec.specs.TermReading.{reading_of};
 ghost use Rattle.amqp_bodies.specs.BodyReading.{body_reading};
 ghost use Rattle.amqp_bodies.specs.SeenReading.{seen_reading, seen_rewrites, seen_bound};
 ghost use Rattle.amqp_bodies.specs.BodyWriting.{body_writing};
+ghost use Rattle.amqp_bodies.specs.SpelledBodies.{IsBody};
+ghost use Rattle.amqp_bodies.specs.SpelledFaults.{IsBodyFault};
+ghost use Rattle.amqp_bodies.specs.SpelledReading.{any_body_is_read};
+ghost use Rattle.amqp_bodies.specs.NamedFaults.{any_body_named};
 ghost use Rattle.amqp_bodies.specs.EmptyBodies.{again_or_null, HasNoEmptyBatch, body_is_text};
 
 use crate::traits::{
@@ -116,12 +120,20 @@ impl<T: SerializeTerm> SerializableBody for Body<T> {}
 impl<T: DeserializeTerm> DeserializableBody for Body<T> {
     ghost group = { ⟦<Body<T> as Deserialize>⟧.reading };
 
+    ghost spells = { IsBody ⟦<AmqpValue<T> as DeserializeTerm>⟧.term ⟦<Data as DeserializeTerm>⟧.term ⟦<AmqpSequence<T> as DeserializeTerm>⟧.term };
+
+    ghost faults = { IsBodyFault ⟦<Data as DeserializeTerm>⟧.term ⟦<AmqpSequence<T> as DeserializeTerm>⟧.term };
+
     fn read_group<R: ByteSource>(
         decoder: &mut Decoder<R>,
         alloc: Global,
     ) -> Result<Body<T>, Error> {
         Body::deserialize(decoder, alloc)
     }
+
+    ghost is_read = { any_body_is_read ⟦<AmqpValue<T> as DeserializeTerm>⟧.term ⟦<Data as DeserializeTerm>⟧.term ⟦<AmqpSequence<T> as DeserializeTerm>⟧.term };
+
+    ghost is_named = { any_body_named ⟦<AmqpValue<T> as DeserializeTerm>⟧.term ⟦<Data as DeserializeTerm>⟧.term ⟦<AmqpSequence<T> as DeserializeTerm>⟧.term };
 }
 
 /// Returns `Empty`.
@@ -136,16 +148,14 @@ impl<T> FromEmptyBody for Body<T> {
 impl<T: DeserializeTerm> FromBody for Body<T> {
     type Body = Body<T>;
 
-    ghost made = { body_made ⟦<Body<T> as Deserialize>⟧.reading (seen_bound _ (any_body_bound
-        ⟦<AmqpValue<T> as DeserializeTerm>⟧.term ⟦<Data as DeserializeTerm>⟧.term ⟦<AmqpSequence<T> as DeserializeTerm>⟧.term)) };
+    ghost making = { body_making ⟦<Body<T> as Deserialize>⟧.reading };
 
     fn from_body(body: Body<T>, _alloc: Global) -> Result<Body<T>, Error> {
         Ok(body)
     }
 
-    fn read_body<R: ByteSource>(decoder: &mut Decoder<R>, alloc: Global) -> Result<Body<T>, Error> {
-        <Body<T> as DeserializableBody>::read_group(decoder, alloc)
-    }
+    ghost laws = { body_laws ⟦<Body<T> as Deserialize>⟧.reading (seen_bound _ (any_body_bound
+        ⟦<AmqpValue<T> as DeserializeTerm>⟧.term ⟦<Data as DeserializeTerm>⟧.term ⟦<AmqpSequence<T> as DeserializeTerm>⟧.term)) };
 
     ghost empty_is = { λ v h. h };
 

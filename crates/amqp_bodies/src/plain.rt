@@ -1,19 +1,16 @@
 //! Values that are read from the body of a message (Part 3, section 3.2.8).
 ghost use Rattle.amqp_bodies.specs.Bodies.{no_value};
-ghost use Rattle.amqp_bodies.specs.BodySections.{plain_made};
+ghost use Rattle.amqp_bodies.specs.BodySections.{plain_making, plain_laws};
 
-use crate::traits::{
-    DeserializableBody, FromBody, FromEmptyBody, PlainFromBody, ValueBody, ValueFromBody,
-};
+use crate::traits::{FromBody, FromEmptyBody, PlainFromBody, ValueBody, ValueFromBody};
 use amqp_codec::{DeserializeTerm, MapKey, Symbol};
 use amqp_containers::Array;
-use amqp_decoder::Decoder;
 use amqp_lazy::LazyValue;
 use amqp_maps::OrderedMap;
 use amqp_primitives::{Binary, Dec32, Dec64, Dec128, Timestamp, Uuid};
 use amqp_sections::AmqpValue;
 use amqp_values::Value;
-use amqp_wire::{ByteSource, Error};
+use amqp_wire::Error;
 use std::alloc::Global;
 use std::collections::BTreeMap;
 
@@ -40,18 +37,13 @@ impl ValueFromBody for LazyValue {}
 impl<T: ValueFromBody> FromBody for T {
     type Body = AmqpValue<T>;
 
-    ghost made = { plain_made T.term T.empties };
+    ghost making = { plain_making T.term T.empties };
 
     fn from_body(body: AmqpValue<T>, _alloc: Global) -> Result<T, Error> {
         Ok(body.0)
     }
 
-    fn read_body<R: ByteSource>(
-        decoder: &mut Decoder<R>,
-        alloc: Global,
-    ) -> Result<AmqpValue<T>, Error> {
-        <AmqpValue<T> as DeserializableBody>::read_group(decoder, alloc)
-    }
+    ghost laws = { plain_laws T.term T.empties };
 
     ghost empty_is = { λ v h. h };
 

@@ -14,9 +14,16 @@ ghost use Rattle.amqp_bodies.specs.BodyTexts.{section_is_text, batch_is_text};
 ghost use Rattle.amqp_bodies.specs.NullBodies.{value_is_text};
 ghost use Rattle.amqp_codec.specs.TermReading.{reading_of};
 ghost use Rattle.amqp_batches.specs.SectionGroups.{run_reading, group_bound};
-ghost use Rattle.amqp_bodies.specs.Bodies.{itself, section_made, no_value};
-ghost use Rattle.amqp_bodies.specs.BodySections.{value_made};
+ghost use Rattle.amqp_bodies.specs.Bodies.{itself, itself_laws, section_making, section_laws, no_value};
+ghost use Rattle.amqp_bodies.specs.BodySections.{value_making, value_laws};
 ghost use Rattle.amqp_bodies.specs.SeenReading.{seen_reading, seen_bound};
+ghost use Rattle.amqp_batches.specs.Spellings.{IsTerm, IsSection, IsBatch};
+ghost use Rattle.amqp_batches.specs.SpellingFaults.{IsNoTerm, IsRunFault, IsSectionFault};
+ghost use Rattle.amqp_batches.specs.laws.ReadAs.{term_is_read};
+ghost use Rattle.amqp_batches.specs.laws.SpelledGroups.{batch_is_read, section_is_read};
+ghost use Rattle.amqp_batches.specs.laws.NamedAs.{term_named, batch_named, section_named};
+ghost use Rattle.amqp_bodies.specs.SpelledReading.{seen_is_read};
+ghost use Rattle.amqp_bodies.specs.NamedFaults.{seen_named};
 
 use crate::traits::{
     BodySection, CanonicalBody, DeserializableBody, FromBody, FromEmptyBody, SerializableBody,
@@ -65,16 +72,28 @@ impl<T: SerializableBody> SerializableBody for Rc<T> {}
 impl<T: DeserializeTerm> DeserializableBody for AmqpValue<T> {
     ghost group = { reading_of ⟦<AmqpValue<T> as DeserializeTerm>⟧.term };
 
+    ghost spells = { IsTerm ⟦<AmqpValue<T> as DeserializeTerm>⟧.term };
+
+    ghost faults = { IsNoTerm };
+
     fn read_group<R: ByteSource>(
         decoder: &mut Decoder<R>,
         alloc: Global,
     ) -> Result<AmqpValue<T>, Error> {
         AmqpValue::read_value(decoder, alloc)
     }
+
+    ghost is_read = { term_is_read ⟦<AmqpValue<T> as DeserializeTerm>⟧.term };
+
+    ghost is_named = { term_named ⟦<AmqpValue<T> as DeserializeTerm>⟧.term };
 }
 
 impl<T: DeserializeTerm> DeserializableBody for AmqpSequence<T> {
     ghost group = { reading_of ⟦<AmqpSequence<T> as DeserializeTerm>⟧.term };
+
+    ghost spells = { IsTerm ⟦<AmqpSequence<T> as DeserializeTerm>⟧.term };
+
+    ghost faults = { IsNoTerm };
 
     fn read_group<R: ByteSource>(
         decoder: &mut Decoder<R>,
@@ -82,18 +101,34 @@ impl<T: DeserializeTerm> DeserializableBody for AmqpSequence<T> {
     ) -> Result<AmqpSequence<T>, Error> {
         AmqpSequence::read_value(decoder, alloc)
     }
+
+    ghost is_read = { term_is_read ⟦<AmqpSequence<T> as DeserializeTerm>⟧.term };
+
+    ghost is_named = { term_named ⟦<AmqpSequence<T> as DeserializeTerm>⟧.term };
 }
 
 impl DeserializableBody for Data {
     ghost group = { reading_of ⟦<Data as DeserializeTerm>⟧.term };
 
+    ghost spells = { IsTerm ⟦<Data as DeserializeTerm>⟧.term };
+
+    ghost faults = { IsNoTerm };
+
     fn read_group<R: ByteSource>(decoder: &mut Decoder<R>, alloc: Global) -> Result<Data, Error> {
         Data::read_value(decoder, alloc)
     }
+
+    ghost is_read = { term_is_read ⟦<Data as DeserializeTerm>⟧.term };
+
+    ghost is_named = { term_named ⟦<Data as DeserializeTerm>⟧.term };
 }
 
 impl<T: BatchItem + DeserializeTerm> DeserializableBody for TransparentVec<T> {
     ghost group = { seen_reading (run_reading T.code ⟦<TransparentVec<T> as Deserialize>⟧.reading) };
+
+    ghost spells = { IsSection T.code (IsBatch T.code (IsTerm T.term)) };
+
+    ghost faults = { IsSectionFault T.code (IsRunFault T.code T.term) };
 
     fn read_group<R: ByteSource>(
         decoder: &mut Decoder<R>,
@@ -104,6 +139,10 @@ impl<T: BatchItem + DeserializeTerm> DeserializableBody for TransparentVec<T> {
         }
         Batch::deserialize(decoder, alloc)
     }
+
+    ghost is_read = { seen_is_read (section_is_read T.code (batch_is_read T.code T.term)) };
+
+    ghost is_named = { seen_named (section_named T.code (batch_named T.code T.term)) };
 }
 
 impl<T: FromEmptyBody> FromEmptyBody for AmqpValue<T> {
@@ -144,18 +183,13 @@ impl<T> FromEmptyBody for TransparentVec<T> {
 impl<T: DeserializeTerm + FromEmptyBody> FromBody for AmqpValue<T> {
     type Body = AmqpValue<T>;
 
-    ghost made = { value_made T.term T.empties };
+    ghost making = { value_making T.term T.empties };
 
     fn from_body(body: AmqpValue<T>, _alloc: Global) -> Result<AmqpValue<T>, Error> {
         Ok(body)
     }
 
-    fn read_body<R: ByteSource>(
-        decoder: &mut Decoder<R>,
-        alloc: Global,
-    ) -> Result<AmqpValue<T>, Error> {
-        <AmqpValue<T> as DeserializableBody>::read_group(decoder, alloc)
-    }
+    ghost laws = { value_laws T.term T.empties };
 
     ghost empty_is = { λ v h. h };
 
@@ -165,18 +199,13 @@ impl<T: DeserializeTerm + FromEmptyBody> FromBody for AmqpValue<T> {
 impl<T: DeserializeTerm> FromBody for AmqpSequence<T> {
     type Body = AmqpSequence<T>;
 
-    ghost made = { section_made ⟦<AmqpSequence<T> as DeserializeTerm>⟧.term };
+    ghost making = { section_making ⟦<AmqpSequence<T> as DeserializeTerm>⟧.term };
 
     fn from_body(body: AmqpSequence<T>, _alloc: Global) -> Result<AmqpSequence<T>, Error> {
         Ok(body)
     }
 
-    fn read_body<R: ByteSource>(
-        decoder: &mut Decoder<R>,
-        alloc: Global,
-    ) -> Result<AmqpSequence<T>, Error> {
-        <AmqpSequence<T> as DeserializableBody>::read_group(decoder, alloc)
-    }
+    ghost laws = { section_laws ⟦<AmqpSequence<T> as DeserializeTerm>⟧.term };
 
     ghost empty_is = { λ v h. h };
 
@@ -186,15 +215,13 @@ impl<T: DeserializeTerm> FromBody for AmqpSequence<T> {
 impl FromBody for Data {
     type Body = Data;
 
-    ghost made = { section_made ⟦<Data as DeserializeTerm>⟧.term };
+    ghost making = { section_making ⟦<Data as DeserializeTerm>⟧.term };
 
     fn from_body(body: Data, _alloc: Global) -> Result<Data, Error> {
         Ok(body)
     }
 
-    fn read_body<R: ByteSource>(decoder: &mut Decoder<R>, alloc: Global) -> Result<Data, Error> {
-        <Data as DeserializableBody>::read_group(decoder, alloc)
-    }
+    ghost laws = { section_laws ⟦<Data as DeserializeTerm>⟧.term };
 
     ghost empty_is = { λ v h. h };
 
@@ -204,19 +231,13 @@ impl FromBody for Data {
 impl<T: BatchItem + DeserializeTerm> FromBody for TransparentVec<T> {
     type Body = TransparentVec<T>;
 
-    ghost made = { itself (seen_reading (run_reading T.code ⟦<TransparentVec<T> as Deserialize>⟧.reading))
-        (seen_bound _ (group_bound T.code T.term)) };
+    ghost making = { itself ⟦<TransparentVec<T> as DeserializableBody>⟧.group };
 
     fn from_body(body: TransparentVec<T>, _alloc: Global) -> Result<TransparentVec<T>, Error> {
         Ok(body)
     }
 
-    fn read_body<R: ByteSource>(
-        decoder: &mut Decoder<R>,
-        alloc: Global,
-    ) -> Result<TransparentVec<T>, Error> {
-        <TransparentVec<T> as DeserializableBody>::read_group(decoder, alloc)
-    }
+    ghost laws = { itself_laws ⟦<TransparentVec<T> as DeserializableBody>⟧.group (seen_bound _ (group_bound T.code T.term)) };
 
     ghost empty_is = { λ v h. h };
 

@@ -8,7 +8,11 @@ ghost use Rattle.amqp_wire.specs.declared.error.Error.TheVariants.{Memory, Empty
 ghost use Rattle.amqp_decoder.specs.Places.{AnswersAt};
 ghost use Rattle.amqp_decoder.specs.Steps.{Tries};
 ghost use Rattle.amqp_codec.specs.Reading.{Reading};
-ghost use Rattle.amqp_bodies.specs.Bodies.{Empties, Made};
+ghost use Rattle.amqp_batches.specs.Spellings.{Spells};
+ghost use Rattle.amqp_batches.specs.SpellingFaults.{Faults};
+ghost use Rattle.amqp_batches.specs.laws.ReadAs.{IsReadAs};
+ghost use Rattle.amqp_batches.specs.laws.NamedAs.{IsNamedAs};
+ghost use Rattle.amqp_bodies.specs.Bodies.{Empties, Making, BodyLaws};
 
 use amqp_codec::{DeserializeTerm, Serialize, SerializeTerm};
 use amqp_decoder::Decoder;
@@ -56,11 +60,21 @@ pub trait DeserializableBody: BodySection + Sized + Drop {
     // How a group of its sections is read, if a section of a body comes next.
     ghost group: { Reading Self };
 
+    // Which bytes spell such a group, and what is wrong with those that begin with none.
+    ghost spells: { Spells Self };
+
+    ghost faults: { Faults };
+
     /// Reads a group of its sections, if a section of a body comes next: one section, or those of one kind that come one after another. It
     /// returns `WrongDescriptor` for another section, and otherwise the errors of a section.
     fn read_group<R: ByteSource>(decoder: &mut Decoder<R>, alloc: Global) -> Result<Self, Error>
         ensures read { Tells R.remaining → AnswersAt group.takes_memory group.reads group.fault decoder.old result decoder.new }
         ensures tries { Tries group.takes_memory decoder.old result decoder.new };
+
+    // What is read is what the bytes spell, and the fault that is reported is theirs.
+    ghost is_read: { IsReadAs group spells };
+
+    ghost is_named: { IsNamedAs group faults };
 }
 
 /// What takes the place of the body of a message that has none.
@@ -79,27 +93,21 @@ pub trait FromBody: FromEmptyBody + Drop {
     /// The type that it is read as.
     type Body: DeserializableBody;
 
-    // How the body is read, and the value made of it, with the laws.
-    ghost made: { Made Self.Body Self };
+    // Which values are made of the body.
+    ghost making: { Making Self.Body Self };
 
     /// Returns the value that is made of the body. The only error is `Memory`.
     fn from_body(body: Self::Body, alloc: Global) -> Result<Self, Error>
-        ensures value { IfOk result (λ v. made.of_body body v) }
+        ensures value { IfOk result (λ v. making.of_body body v) }
         ensures memory { IfErr result (λ e. e ≡ Memory) };
 
-    /// Reads a group of sections of the body, if a section of a body comes next, as the body's type does.
-    fn read_body<R: ByteSource>(
-        decoder: &mut Decoder<R>,
-        alloc: Global,
-    ) -> Result<Self::Body, Error>
-        ensures read { Tells R.remaining → AnswersAt made.group.takes_memory made.group.reads made.group.fault decoder.old result
-            decoder.new }
-        ensures tries { Tries made.group.takes_memory decoder.old result decoder.new };
+    // The laws.
+    ghost laws: { BodyLaws Self.Body.group making };
 
     // The values that take the place of an absent body are those that `from_empty_body` states.
-    ghost empty_is: { (v : Self) → Self.FromEmptyBody.empties.is v → made.empty v };
+    ghost empty_is: { (v : Self) → Self.FromEmptyBody.empties.is v → making.empty v };
 
-    ghost is_empty: { (v : Self) → made.empty v → Self.FromEmptyBody.empties.is v };
+    ghost is_empty: { (v : Self) → making.empty v → Self.FromEmptyBody.empties.is v };
 }
 
 /// A body in which there may be nothing. Nothing is a null in an `AmqpValue`, an empty `AmqpSequence` or `Data`, or a batch without
@@ -108,53 +116,21 @@ pub trait TransposeOption<To: FromBody>: BodySection + Sized {
     /// The type that it is read as.
     type From: DeserializableBody;
 
-    // How it is read, and what is made of it, with the laws.
-    ghost transposed: { Made Self.From (Option To) };
+    // What is made of it.
+    ghost transposing: { Making Self.From (Option To) };
 
     /// Returns what is made of the body, or `None` if there is nothing in it. The only error is `Memory`.
     fn transpose(src: Self::From, alloc: Global) -> Result<Option<To>, Error>
-        ensures value { IfOk result (λ v. transposed.of_body src v) }
+        ensures value { IfOk result (λ v. transposing.of_body src v) }
         ensures memory { IfErr result (λ e. e ≡ Memory) };
 
-    /// Reads a group of sections of the body, if a section of a body comes next, as `DeserializableBody::read_group` does.
-    fn read_from<R: ByteSource>(
-        decoder: &mut Decoder<R>,
-        alloc: Global,
-    ) -> Result<Self::From, Error>
-        ensures read { Tells R.remaining → AnswersAt transposed.group.takes_memory transposed.group.reads transposed.group.fault
-            decoder.old result decoder.new }
-        ensures tries { Tries transposed.group.takes_memory decoder.old result decoder.new };
+    // The laws.
+    ghost transposing_laws: { BodyLaws Self.From.group transposing };
 
     // What takes the place of an absent body is `None`.
-    ghost none_is: { (v : Option To) → v ≡ None → transposed.empty v };
+    ghost none_is: { (v : Option To) → v ≡ None → transposing.empty v };
 
-    ghost is_none: { (v : Option To) → transposed.empty v → v ≡ None };
-}
-
-/// A body that may be empty, and is `None` then. It isn't exported, so no other crate adds one.
-pub trait EmptyIsNothing: DeserializableBody + FromBody<Body = Self> {
-    // How it is read if it may be absent, and what is made of it, with the laws.
-    ghost optional: { Made (Option Self) (Option Self) };
-
-    /// Returns itself, or `None` if it is empty.
-    fn unless_empty(self) -> Option<Self>
-        ensures { optional.of_body (Some self) result };
-
-    /// Reads a group of its sections, if a section of a body comes next.
-    fn read_optional<R: ByteSource>(
-        decoder: &mut Decoder<R>,
-        alloc: Global,
-    ) -> Result<Option<Self>, Error>
-        ensures read { Tells R.remaining → AnswersAt optional.group.takes_memory optional.group.reads optional.group.fault decoder.old
-            result decoder.new }
-        ensures tries { Tries optional.group.takes_memory decoder.old result decoder.new };
-
-    // An absent body is made of an absent one, and takes its place.
-    ghost of_none: { optional.of_body None None };
-
-    ghost none_is: { (v : Option Self) → v ≡ None → optional.empty v };
-
-    ghost is_none: { (v : Option Self) → optional.empty v → v ≡ None };
+    ghost is_none: { (v : Option To) → transposing.empty v → v ≡ None };
 }
 
 /// What can be both written and read as the body of a message, so that each message has one canonical text.
@@ -169,7 +145,7 @@ pub trait CanonicalBody: FromBody<Body = Self> + SerializableBody {
     ghost lasts: { Self → Type 0 };
 
     // The laws.
-    ghost is_text: { IsBodyText Self.made Self.writing follows again kept lasts };
+    ghost is_text: { IsBodyText Self.laws Self.writing follows again kept lasts };
 }
 
 /// What can be the value of a message's body, so that a message that has no body is read again from its text.

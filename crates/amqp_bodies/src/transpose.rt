@@ -2,26 +2,19 @@
 ghost use Rattle.std.specs.Prelude.{◌≡◌, [], None, IfOk, IfErr, MatchOption};
 ghost use Rattle.std.specs.List.{AllZip, Any};
 ghost use Rattle.amqp_wire.specs.declared.error.Error.TheVariants.{Memory};
-ghost use Rattle.amqp_batches.specs.laws.Bound.{term_bound};
 ghost use Rattle.amqp_batches.specs.Batches.{sections_in};
-ghost use Rattle.amqp_batches.specs.SectionGroups.{group_bound};
-ghost use Rattle.amqp_bodies.specs.Bodies.{section_made};
-ghost use Rattle.amqp_bodies.specs.BodySections.{any_body_bound};
-ghost use Rattle.amqp_bodies.specs.SeenReading.{seen_bound};
-ghost use Rattle.amqp_bodies.specs.Transposing.{optional, option_made, seen_stripped, run_stripped};
-ghost use Rattle.amqp_bodies.specs.StrippedBodies.{HasNone, AreAll, value_stripped, sequence_stripped, batch_stripped};
-ghost use Rattle.amqp_bodies.specs.StrippedBodies.{data_stripped, data_batch_stripped};
-ghost use Rattle.amqp_bodies.specs.StrippedKinds.{body_stripped};
+ghost use Rattle.amqp_bodies.specs.Transposing.{option_making, option_laws};
+ghost use Rattle.amqp_bodies.specs.StrippedBodies.{HasNone, AreAll};
+ghost use Rattle.amqp_bodies.specs.MaybeBodies.{maybe_value, maybe_value_bound, maybe_sequence, maybe_sequence_bound};
+ghost use Rattle.amqp_bodies.specs.MaybeBodies.{maybe_sequences, maybe_sequences_bound, maybe_data, maybe_data_bound};
+ghost use Rattle.amqp_bodies.specs.MaybeBodies.{maybe_datas, maybe_datas_bound, maybe_body, maybe_body_bound};
 
 use crate::body::Body;
-use crate::traits::{
-    DeserializableBody, EmptyIsNothing, FromBody, FromEmptyBody, TransposeOption, ValueFromBody,
-};
+use crate::traits::{FromBody, TransposeOption};
 use amqp_batches::{Batch, TransparentVec};
-use amqp_codec::{Deserialize, DeserializeTerm};
-use amqp_decoder::Decoder;
+use amqp_codec::DeserializeTerm;
 use amqp_sections::{AmqpSequence, AmqpValue, Data};
-use amqp_wire::{ByteSource, Error};
+use amqp_wire::Error;
 use std::alloc::Global;
 
 // The items, or none if one of them is absent.
@@ -67,54 +60,19 @@ fn all_sequences<T: Drop>(
 }
 
 /// A null is `None`.
-impl<T: ValueFromBody> TransposeOption<T> for AmqpValue<T> {
+impl<T: DeserializeTerm, To: FromBody<Body = AmqpValue<T>>> TransposeOption<To> for AmqpValue<T> {
     type From = Option<AmqpValue<Option<T>>>;
 
-    ghost transposed = { option_made ⟦<T as FromBody>⟧.made
-        (optional (value_stripped T.term) (term_bound ⟦<AmqpValue<Option<T>> as DeserializeTerm>⟧.term)) };
+    ghost transposing = { option_making To.making (maybe_value T.term) };
 
-    fn transpose(src: Option<AmqpValue<Option<T>>>, alloc: Global) -> Result<Option<T>, Error> {
+    fn transpose(src: Option<AmqpValue<Option<T>>>, alloc: Global) -> Result<Option<To>, Error> {
         match src {
-            Some(AmqpValue(Some(value))) => Ok(Some(T::from_body(AmqpValue(value), alloc)?)),
+            Some(AmqpValue(Some(value))) => Ok(Some(To::from_body(AmqpValue(value), alloc)?)),
             Some(AmqpValue(None)) | None => Ok(None),
         }
     }
 
-    fn read_from<R: ByteSource>(
-        decoder: &mut Decoder<R>,
-        alloc: Global,
-    ) -> Result<Option<AmqpValue<Option<T>>>, Error> {
-        <Option<AmqpValue<Option<T>>> as DeserializableBody>::read_group(decoder, alloc)
-    }
-
-    ghost none_is = { λ v h. h };
-
-    ghost is_none = { λ v h. h };
-}
-
-/// A null is `None`.
-impl<T: DeserializeTerm + FromEmptyBody> TransposeOption<AmqpValue<T>> for AmqpValue<T> {
-    type From = Option<AmqpValue<Option<T>>>;
-
-    ghost transposed = { option_made ⟦<AmqpValue<T> as FromBody>⟧.made
-        (optional (value_stripped T.term) (term_bound ⟦<AmqpValue<Option<T>> as DeserializeTerm>⟧.term)) };
-
-    fn transpose(
-        src: Option<AmqpValue<Option<T>>>,
-        _alloc: Global,
-    ) -> Result<Option<AmqpValue<T>>, Error> {
-        match src {
-            Some(AmqpValue(Some(value))) => Ok(Some(AmqpValue(value))),
-            Some(AmqpValue(None)) | None => Ok(None),
-        }
-    }
-
-    fn read_from<R: ByteSource>(
-        decoder: &mut Decoder<R>,
-        alloc: Global,
-    ) -> Result<Option<AmqpValue<Option<T>>>, Error> {
-        <Option<AmqpValue<Option<T>>> as DeserializableBody>::read_group(decoder, alloc)
-    }
+    ghost transposing_laws = { option_laws To.making (maybe_value T.term) To.laws (maybe_value_bound T.term) };
 
     ghost none_is = { λ v h. h };
 
@@ -122,23 +80,20 @@ impl<T: DeserializeTerm + FromEmptyBody> TransposeOption<AmqpValue<T>> for AmqpV
 }
 
 /// A sequence without items is `None`, and so is one with a null among them.
-impl<T: DeserializeTerm> TransposeOption<AmqpSequence<T>> for AmqpSequence<T> {
+impl<T: DeserializeTerm, To: FromBody<Body = AmqpSequence<T>>> TransposeOption<To>
+    for AmqpSequence<T> {
     type From = Option<AmqpSequence<Option<T>>>;
 
-    ghost transposed = { option_made ⟦<AmqpSequence<T> as FromBody>⟧.made
-        (optional (sequence_stripped T.term) (term_bound ⟦<AmqpSequence<Option<T>> as DeserializeTerm>⟧.term)) };
+    ghost transposing = { option_making To.making (maybe_sequence T.term) };
 
-    fn transpose(
-        src: Option<AmqpSequence<Option<T>>>,
-        alloc: Global,
-    ) -> Result<Option<AmqpSequence<T>>, Error> {
+    fn transpose(src: Option<AmqpSequence<Option<T>>>, alloc: Global) -> Result<Option<To>, Error> {
         match src {
             Some(sequence) => match all_items(sequence.0, alloc)? {
                 Some(items) => {
                     if items.is_empty() {
                         return Ok(None);
                     }
-                    Ok(Some(AmqpSequence(items)))
+                    Ok(Some(To::from_body(AmqpSequence(items), alloc)?))
                 }
                 None => Ok(None),
             },
@@ -146,12 +101,7 @@ impl<T: DeserializeTerm> TransposeOption<AmqpSequence<T>> for AmqpSequence<T> {
         }
     }
 
-    fn read_from<R: ByteSource>(
-        decoder: &mut Decoder<R>,
-        alloc: Global,
-    ) -> Result<Option<AmqpSequence<Option<T>>>, Error> {
-        <Option<AmqpSequence<Option<T>>> as DeserializableBody>::read_group(decoder, alloc)
-    }
+    ghost transposing_laws = { option_laws To.making (maybe_sequence T.term) To.laws (maybe_sequence_bound T.term) };
 
     ghost none_is = { λ v h. h };
 
@@ -159,32 +109,26 @@ impl<T: DeserializeTerm> TransposeOption<AmqpSequence<T>> for AmqpSequence<T> {
 }
 
 /// A batch without sequences is `None`, and so is one with a null among the items of a sequence.
-impl<T: DeserializeTerm> TransposeOption<TransparentVec<AmqpSequence<T>>>
+impl<T: DeserializeTerm, To: FromBody<Body = TransparentVec<AmqpSequence<T>>>> TransposeOption<To>
     for TransparentVec<AmqpSequence<T>> {
     type From = Option<TransparentVec<AmqpSequence<Option<T>>>>;
 
-    ghost transposed = { option_made ⟦<TransparentVec<AmqpSequence<T>> as FromBody>⟧.made
-        (optional (seen_stripped (run_stripped 0x76 (batch_stripped T.term)))
-        (seen_bound _ (group_bound 0x76 ⟦<AmqpSequence<Option<T>> as DeserializeTerm>⟧.term))) };
+    ghost transposing = { option_making To.making (maybe_sequences T.term) };
 
     fn transpose(
         src: Option<TransparentVec<AmqpSequence<Option<T>>>>,
         alloc: Global,
-    ) -> Result<Option<TransparentVec<AmqpSequence<T>>>, Error> {
+    ) -> Result<Option<To>, Error> {
         match src {
-            Some(batch) if !batch.is_empty() => all_sequences(batch, alloc),
+            Some(batch) if !batch.is_empty() => match all_sequences(batch, alloc)? {
+                Some(sequences) => Ok(Some(To::from_body(sequences, alloc)?)),
+                None => Ok(None),
+            },
             Some(_) | None => Ok(None),
         }
     }
 
-    fn read_from<R: ByteSource>(
-        decoder: &mut Decoder<R>,
-        alloc: Global,
-    ) -> Result<Option<TransparentVec<AmqpSequence<Option<T>>>>, Error> {
-        <Option<TransparentVec<AmqpSequence<Option<T>>>> as DeserializableBody>::read_group(
-            decoder, alloc,
-        )
-    }
+    ghost transposing_laws = { option_laws To.making (maybe_sequences T.term) To.laws (maybe_sequences_bound T.term) };
 
     ghost none_is = { λ v h. h };
 
@@ -192,25 +136,19 @@ impl<T: DeserializeTerm> TransposeOption<TransparentVec<AmqpSequence<T>>>
 }
 
 /// Data without bytes is `None`.
-impl EmptyIsNothing for Data {
-    ghost optional = { option_made (section_made ⟦<Data as DeserializeTerm>⟧.term)
-        (optional data_stripped (term_bound ⟦<Data as DeserializeTerm>⟧.term)) };
+impl<To: FromBody<Body = Data>> TransposeOption<To> for Data {
+    type From = Option<Data>;
 
-    fn unless_empty(self) -> Option<Data> {
-        if self.0.0.is_empty() {
-            return None;
+    ghost transposing = { option_making To.making maybe_data };
+
+    fn transpose(src: Option<Data>, alloc: Global) -> Result<Option<To>, Error> {
+        match src {
+            Some(section) if !section.0.0.is_empty() => Ok(Some(To::from_body(section, alloc)?)),
+            Some(_) | None => Ok(None),
         }
-        Some(self)
     }
 
-    fn read_optional<R: ByteSource>(
-        decoder: &mut Decoder<R>,
-        alloc: Global,
-    ) -> Result<Option<Data>, Error> {
-        <Option<Data> as DeserializableBody>::read_group(decoder, alloc)
-    }
-
-    ghost of_none = { tt };
+    ghost transposing_laws = { option_laws To.making maybe_data To.laws maybe_data_bound };
 
     ghost none_is = { λ v h. h };
 
@@ -218,90 +156,45 @@ impl EmptyIsNothing for Data {
 }
 
 /// A batch without sections is `None`.
-impl TransposeOption<TransparentVec<Data>> for TransparentVec<Data> {
+impl<To: FromBody<Body = TransparentVec<Data>>> TransposeOption<To> for TransparentVec<Data> {
     type From = Option<TransparentVec<Data>>;
 
-    ghost transposed = { option_made ⟦<TransparentVec<Data> as FromBody>⟧.made
-        (optional (seen_stripped (run_stripped 0x75 data_batch_stripped))
-        (seen_bound _ (group_bound 0x75 ⟦<Data as DeserializeTerm>⟧.term))) };
+    ghost transposing = { option_making To.making maybe_datas };
 
-    fn transpose(
-        src: Option<TransparentVec<Data>>,
-        alloc: Global,
-    ) -> Result<Option<TransparentVec<Data>>, Error> {
+    fn transpose(src: Option<TransparentVec<Data>>, alloc: Global) -> Result<Option<To>, Error> {
         match src {
-            Some(batch) if !batch.is_empty() => Ok(Some(batch)),
+            Some(batch) if !batch.is_empty() => Ok(Some(To::from_body(batch, alloc)?)),
             Some(_) | None => Ok(None),
         }
     }
 
-    fn read_from<R: ByteSource>(
-        decoder: &mut Decoder<R>,
-        alloc: Global,
-    ) -> Result<Option<TransparentVec<Data>>, Error> {
-        <Option<TransparentVec<Data>> as DeserializableBody>::read_group(decoder, alloc)
-    }
+    ghost transposing_laws = { option_laws To.making maybe_datas To.laws maybe_datas_bound };
 
     ghost none_is = { λ v h. h };
 
     ghost is_none = { λ v h. h };
 }
 
-/// An empty body is `None`.
-impl<T: EmptyIsNothing> TransposeOption<T> for T {
-    type From = Option<T>;
-
-    ghost transposed = { T.optional };
-
-    fn transpose(src: Option<T>, _alloc: Global) -> Result<Option<T>, Error> {
-        match src {
-            Some(body) => Ok(body.unless_empty()),
-            None => Ok(None),
-        }
-    }
-
-    fn read_from<R: ByteSource>(
-        decoder: &mut Decoder<R>,
-        alloc: Global,
-    ) -> Result<Option<T>, Error> {
-        T::read_optional(decoder, alloc)
-    }
-
-    ghost none_is = { T.none_is };
-
-    ghost is_none = { T.is_none };
-}
-
 /// Each of these is `None`: a null, a batch without sections, a null among the items of a sequence, and no body.
-impl<T: DeserializeTerm> TransposeOption<Body<T>> for Body<T> {
+impl<T: DeserializeTerm, To: FromBody<Body = Body<T>>> TransposeOption<To> for Body<T> {
     type From = Body<Option<T>>;
 
-    ghost transposed = { option_made ⟦<Body<T> as FromBody>⟧.made
-        (record {
-          group = ⟦<Body<Option<T>> as Deserialize>⟧.reading;
-          bound = seen_bound _ (any_body_bound ⟦<AmqpValue<Option<T>> as DeserializeTerm>⟧.term
-              ⟦<Data as DeserializeTerm>⟧.term ⟦<AmqpSequence<Option<T>> as DeserializeTerm>⟧.term);
-          stripped = seen_stripped (body_stripped (value_stripped T.term) data_batch_stripped (batch_stripped T.term));
-        }) };
+    ghost transposing = { option_making To.making (maybe_body T.term) };
 
-    fn transpose(src: Body<Option<T>>, alloc: Global) -> Result<Option<Body<T>>, Error> {
-        match src {
-            Body::Value(AmqpValue(Some(value))) => Ok(Some(Body::Value(AmqpValue(value)))),
-            Body::Data(batch) if !batch.is_empty() => Ok(Some(Body::Data(batch))),
+    fn transpose(src: Body<Option<T>>, alloc: Global) -> Result<Option<To>, Error> {
+        let body = match src {
+            Body::Value(AmqpValue(Some(value))) => Body::Value(AmqpValue(value)),
+            Body::Data(batch) if !batch.is_empty() => Body::Data(batch),
             Body::Sequence(batch) if !batch.is_empty() => match all_sequences(batch, alloc)? {
-                Some(sequences) => Ok(Some(Body::Sequence(sequences))),
-                None => Ok(None),
+                Some(sequences) => Body::Sequence(sequences),
+                None => return Ok(None),
             },
-            _ => Ok(None),
-        }
+            _ => return Ok(None),
+        };
+        Ok(Some(To::from_body(body, alloc)?))
     }
 
-    fn read_from<R: ByteSource>(
-        decoder: &mut Decoder<R>,
-        alloc: Global,
-    ) -> Result<Body<Option<T>>, Error> {
-        <Body<Option<T>> as DeserializableBody>::read_group(decoder, alloc)
-    }
+    ghost transposing_laws = { option_laws To.making (maybe_body T.term) To.laws (maybe_body_bound T.term) };
 
     ghost none_is = { λ v h. h };
 

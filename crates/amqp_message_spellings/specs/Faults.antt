@@ -1,54 +1,14 @@
--- Where bytes are no batch, body or message, and what is wrong there (Part 3, section 3.2).
+-- Where bytes are no message, and what is wrong there (Part 3, section 3.2).
 use Rattle.std.specs.Prelude.{◌≡◌, ◌⊎◌, ◌<◌, ◌≤◌, ℕ, Bool, true, false, List, [], ◌∷◌, ◌++◌, length, None}
 use Rattle.amqp_wire.specs.declared.error.Error.{Error}
-use Rattle.amqp_wire.specs.declared.error.Error.TheVariants.{EmptyBody, Misplaced, WrongDescriptor}
+use Rattle.amqp_wire.specs.declared.error.Error.TheVariants.{EmptyBody, Misplaced}
 use Rattle.amqp_lookahead.specs.Sections.{IsSectionAhead}
-use Rattle.amqp_decoder.specs.Misspelled.{IsMisspelling}
-use Rattle.amqp_codec.specs.TermType.{TermType}
-use Rattle.amqp_codec.specs.Reading.{Reading, IsUnreadable, IsUnspelled}
-use Rattle.amqp_sections.specs.declared.data.Data.{Data}
-use Rattle.amqp_sections.specs.declared.amqp_sequence.AmqpSequence.{AmqpSequence}
-use Rattle.amqp_bodies.specs.Bodies.{Made}
+use Rattle.amqp_batches.specs.Spellings.{Spells, Are}
+use Rattle.amqp_batches.specs.SpellingFaults.{Faults, IsNoTerm}
+use Rattle.amqp_bodies.specs.Bodies.{Making}
 use Rattle.amqp_messages.specs.Orders as orders
-use Rattle.amqp_message_spellings.specs.Spellings.{Spells, IsTerm, IsSection, Are}
 use Rattle.amqp_message_spellings.specs.Kinds.{Group, IsGroup, is_in, nothing, put_all, behind, Fall}
 use Rattle.amqp_message_spellings.specs.Messages.{kinds, body_in}
-
--- Which errors report a fault at the start of the bytes.
-abbrev pub Faults : Type 1
-Faults = List ℕ → Error → Type 0
-
--- If the error says of bytes that they are no term, none of these begins with one.
-abbrev pub IsNoTerm : Faults
-IsNoTerm at e = IsMisspelling e → IsUnspelled e at
-
--- An input from which nothing is read has the fault that is reported.
-abbrev pub IsRefusedFor : {T : Type 0} → Reading T → Faults → Type 0
-IsRefusedFor r fault = (input : List ℕ) (e : Error) → IsUnreadable r input e → fault input e
-
--- Behind some whole sections of this kind another one begins, and is none.
-pub record IsRunFault {T : Type 0} (c : ℕ) (u : TermType T) (input : List ℕ) (e : Error) : Type 0 where
-  pub bytes : List ℕ
-  pub values : List T
-  pub at : List ℕ
-  pub split : input ≡ bytes ++ at
-  pub are : Are (IsSection c (IsTerm u)) bytes values at
-  pub next : IsSectionAhead at c
-  pub has : IsNoTerm at e
-
--- What begins as the section of this code has the fault, or another thing comes next.
-pub data IsSectionFault (c : ℕ) (fault : Faults) (input : List ℕ) (e : Error) : Type 0 where
-  begun : IsSectionAhead input c → fault input e → IsSectionFault c fault input e
-  other : (IsSectionAhead input c → ⊥) → e ≡ WrongDescriptor → IsSectionFault c fault input e
-
--- The group whose section comes next has the fault; or that section is none of a body's; or no section comes next.
-pub data IsBodyFault {T : Type 0} (data_ : TermType Data) (sequence : TermType (AmqpSequence T)) (input : List ℕ) (e : Error) : Type 0 where
-  in_value : IsSectionAhead input 0x77 → IsNoTerm input e → IsBodyFault data_ sequence input e
-  in_data : IsSectionAhead input 0x75 → IsRunFault 0x75 data_ input e → IsBodyFault data_ sequence input e
-  in_sequence : IsSectionAhead input 0x76 → IsRunFault 0x76 sequence input e → IsBodyFault data_ sequence input e
-  no_body : {c : ℕ} → IsSectionAhead input c → (c ≡ 0x75 → ⊥) → (c ≡ 0x76 → ⊥) → (c ≡ 0x77 → ⊥) → e ≡ WrongDescriptor
-      → IsBodyFault data_ sequence input e
-  no_section : ((c : ℕ) → IsSectionAhead input c → ⊥) → IsNoTerm input e → IsBodyFault data_ sequence input e
 
 abbrev pub is_of_body : ℕ → Bool
 is_of_body c = is_in (0x75 ∷ 0x76 ∷ 0x77 ∷ []) c
@@ -61,24 +21,24 @@ IsGroupFault body c at e = ((is_of_body c ≡ true) × body at e) ⊎ ((is_of_bo
 abbrev pub IsNoSection : Faults
 IsNoSection at e = (at ≡ [] → ⊥) × ((c : ℕ) → IsSectionAhead at c → ⊥) × IsNoTerm at e
 
-module _ {S B : Type 0} (made : Made S B) (group : Spells S) where
+module _ {S B : Type 0} (making : Making S B) (group : Spells S) where
   -- There is no body, and nothing takes its place.
-  abbrev pub HasNoBody : List (Group (kinds made group)) → Error → Type 0
+  abbrev pub HasNoBody : List (Group (kinds making group)) → Error → Type 0
   HasNoBody groups e =
-      (body_in made group (put_all (kinds made group) groups (nothing (kinds made group))) ≡ None) × (e ≡ EmptyBody)
-      × ((v : B) → made.empty v → ⊥)
+      (body_in making group (put_all (kinds making group) groups (nothing (kinds making group))) ≡ None) × (e ≡ EmptyBody)
+      × ((v : B) → making.empty v → ⊥)
 
   -- Of these bytes, behind some whole groups, this is so.
-  pub record IsBehindGroups (why : List (Group (kinds made group)) → List ℕ → Type 0) (input : List ℕ) : Type 0 where
+  pub record IsBehindGroups (why : List (Group (kinds making group)) → List ℕ → Type 0) (input : List ℕ) : Type 0 where
     pub bytes : List ℕ
-    pub groups : List (Group (kinds made group))
+    pub groups : List (Group (kinds making group))
     pub at : List ℕ
     pub split : input ≡ bytes ++ at
-    pub are : Are (IsGroup (kinds made group)) bytes groups at
+    pub are : Are (IsGroup (kinds making group)) bytes groups at
     pub is : why groups at
 
   -- Behind at most six groups the next one has the fault, or there is none; or of all of them no message is made.
-  abbrev pub HasFault : Faults → Error → List (Group (kinds made group)) → List ℕ → Type 0
+  abbrev pub HasFault : Faults → Error → List (Group (kinds making group)) → List ℕ → Type 0
   HasFault body e groups at =
       ((length groups < 7) × (((c : ℕ) × IsSectionAhead at c × IsGroupFault body c at e) ⊎ IsNoSection at e))
       ⊎ ((length groups ≤ 7) × ((length groups ≡ 7) ⊎ (at ≡ [])) × HasNoBody groups e)
@@ -87,14 +47,14 @@ module _ {S B : Type 0} (made : Made S B) (group : Spells S) where
   IsMessageFault body input e = IsBehindGroups (HasFault body e) input
 
   -- How many kinds may still come behind these groups.
-  abbrev pub left_behind : ℕ → List (Group (kinds made group)) → ℕ
+  abbrev pub left_behind : ℕ → List (Group (kinds making group)) → ℕ
   left_behind n [] = n
-  left_behind n (g ∷ gs) = left_behind (behind (kinds made group) g) gs
+  left_behind n (g ∷ gs) = left_behind (behind (kinds making group) g) gs
 
   -- The same in the standard's order: the section that comes next may also be out of its place.
-  abbrev pub HasStrictFault : Faults → Error → List (Group (kinds made group)) → List ℕ → Type 0
+  abbrev pub HasStrictFault : Faults → Error → List (Group (kinds making group)) → List ℕ → Type 0
   HasStrictFault body e groups at =
-      Fall (kinds made group) 7 groups × ((((c : ℕ) × IsSectionAhead at c
+      Fall (kinds making group) 7 groups × ((((c : ℕ) × IsSectionAhead at c
       × (((orders.behind c < left_behind 7 groups) × IsGroupFault body c at e)
       ⊎ ((left_behind 7 groups ≤ orders.behind c) × (e ≡ Misplaced))))
       ⊎ IsNoSection at e) ⊎ ((at ≡ []) × HasNoBody groups e))
