@@ -16,31 +16,30 @@ pub record Empties (B : Type 0) : Type 1 where
 abbrev pub no_value : {B : Type 0} → Empties B
 no_value = record { is = λ v. ⊥; test = λ v. false; tested = λ v h. absurd h }
 
--- Which values are made of the body of a message, and which take the place of one that isn't there.
-pub record Making (S B : Type 0) : Type 1 where
+-- group: how the body is read; empty: the values that take the place of one that isn't there; of_body: the value is made of the body
+pub record BodyLaws {S B : Type 0} (group : Reading S) (empty : B → Type 0) (same : B → B → Type 0) (count : B → ℕ)
+    (of_body : S → B → Type 0) : Type 0 where
+  -- limits of the caller bound it
+  pub bound : IsBoundByLimits group
+  pub same_sym : (v w : B) → same v w → same w v
+  pub same_trans : (v w x : B) → same v w → same w x → same v x
+  pub one : (s t : S) (v w : B) → group.same s t → of_body s v → of_body t w → same v w
+  pub counted : (s : S) (v : B) → of_body s v → count v ≤ group.count s
+  pub one_empty : (v w : B) → empty v → empty w → same v w
+  pub none_counted : (v : B) → empty v → count v ≡ 0
+
+-- How a value is made of the body of a message, with the laws.
+pub record Made (S B : Type 0) : Type 1 where
+  pub group : Reading S
   pub empty : B → Type 0
   -- the two differ at most in where they lie in memory, or both take the place of a body that isn't there
   pub same : B → B → Type 0
   -- the values in it; what takes the place of a body that isn't there counts none
   pub count : B → ℕ
   pub of_body : S → B → Type 0
+  pub laws : BodyLaws group empty same count of_body
 
--- The laws, where a body is read so.
-pub record BodyLaws {S B : Type 0} (group : Reading S) (m : Making S B) : Type 0 where
-  -- limits of the caller bound it
-  pub bound : IsBoundByLimits group
-  pub same_sym : (v w : B) → m.same v w → m.same w v
-  pub same_trans : (v w x : B) → m.same v w → m.same w x → m.same v x
-  pub one : (s t : S) (v w : B) → group.same s t → m.of_body s v → m.of_body t w → m.same v w
-  pub counted : (s : S) (v : B) → m.of_body s v → m.count v ≤ group.count s
-  pub one_empty : (v w : B) → m.empty v → m.empty w → m.same v w
-  pub none_counted : (v : B) → m.empty v → m.count v ≡ 0
-
--- What is read as itself, and where no value takes the place of a body that isn't there.
-abbrev pub itself : {S : Type 0} → Reading S → Making S S
-itself r = record { empty = λ v. ⊥; same = r.same; count = r.count; of_body = λ s v. v ≡ s }
-
-pub itself_laws : {S : Type 0} (r : Reading S) → IsBoundByLimits r → BodyLaws r (itself r)
+pub itself_laws : {S : Type 0} (r : Reading S) → IsBoundByLimits r → BodyLaws r (λ v. ⊥) r.same r.count (λ s v. v ≡ s)
 itself_laws r bound = record {
   bound = bound;
   same_sym = r.same_sym;
@@ -51,12 +50,20 @@ itself_laws r bound = record {
   none_counted = λ v h. absurd h;
 }
 
--- A section.
-abbrev pub section_making : {S : Type 0} → TermType S → Making S S
-section_making u = itself (reading_of u)
+-- What is read as itself, and where no value takes the place of a body that isn't there.
+abbrev pub itself : {S : Type 0} (r : Reading S) → IsBoundByLimits r → Made S S
+itself r bound = record {
+  group = r;
+  empty = λ v. ⊥;
+  same = r.same;
+  count = r.count;
+  of_body = λ s v. v ≡ s;
+  laws = itself_laws r bound;
+}
 
-pub section_laws : {S : Type 0} (u : TermType S) → BodyLaws (reading_of u) (section_making u)
-section_laws u = itself_laws (reading_of u) (term_bound u)
+-- A section.
+abbrev pub section_made : {S : Type 0} → TermType S → Made S S
+section_made u = itself (reading_of u) (term_bound u)
 
 -- The same, or both take the place of a body that isn't there.
 pub data AreLinked {B : Type 0} (same : B → B → Type 0) (empty : B → Type 0) : B → B → Type 0 where
@@ -78,19 +85,10 @@ some_counted : (b : Bool) (n : ℕ) → cond b 0 n ≤ n
 some_counted true n = omega arith
 some_counted false n = omega arith
 
--- What stands in the body, or takes the place of one that isn't there.
-abbrev pub held_in : {S B : Type 0} → Empties B → (B → B → Type 0) → (B → ℕ) → (S → B) → Making S B
-held_in e same count get = record {
-  empty = e.is;
-  same = AreLinked same e.is;
-  count = count_some e count;
-  of_body = λ s v. v ≡ get s;
-}
-
 module _ {S B : Type 0} (r : Reading S) (bound : IsBoundByLimits r) (e : Empties B) (same : B → B → Type 0) (count : B → ℕ) (get : S → B)
     (sames : (v w : B) → same v w → same w v) (to : (s t : S) → r.same s t → same (get s) (get t))
     (counts : (s : S) → count (get s) ≤ r.count s) where
-  pub held_laws : BodyLaws r (held_in e same count get)
+  pub held_laws : BodyLaws r e.is (AreLinked same e.is) (count_some e count) (λ s v. v ≡ get s)
   held_laws = record {
     bound = bound;
     same_sym = linked_sym same e.is sames;
@@ -103,9 +101,17 @@ module _ {S B : Type 0} (r : Reading S) (bound : IsBoundByLimits r) (e : Empties
     none_counted = λ v h. ap (λ b. cond b 0 (count v)) (e.tested v h);
   }
 
--- What is read as itself, or takes the place of a body that isn't there.
-abbrev pub itself_or_empty : {S : Type 0} → Reading S → Empties S → Making S S
-itself_or_empty r e = held_in e r.same r.count (λ v. v)
+  -- What stands in the body, or takes the place of one that isn't there.
+  abbrev pub held_in : Made S B
+  held_in = record {
+    group = r;
+    empty = e.is;
+    same = AreLinked same e.is;
+    count = count_some e count;
+    of_body = λ s v. v ≡ get s;
+    laws = held_laws;
+  }
 
-pub itself_or_empty_laws : {S : Type 0} (r : Reading S) → IsBoundByLimits r → (e : Empties S) → BodyLaws r (itself_or_empty r e)
-itself_or_empty_laws r bound e = held_laws r bound e r.same r.count (λ v. v) r.same_sym (λ s t h. h) (λ s. omega arith)
+-- What is read as itself, or takes the place of a body that isn't there.
+abbrev pub itself_or_empty : {S : Type 0} (r : Reading S) → IsBoundByLimits r → Empties S → Made S S
+itself_or_empty r bound e = held_in r bound e r.same r.count (λ v. v) r.same_sym (λ s t h. h) (λ s. omega arith)

@@ -20,7 +20,7 @@ use Rattle.amqp_batches.specs.Batches.{sections_in, batch_reading, batch_writing
 use Rattle.amqp_batches.specs.SectionGroups.{group_bound, section_text, batch_text}
 use Rattle.amqp_bodies.specs.declared.body.Body.{Body}
 use Rattle.amqp_bodies.specs.declared.body.Body.TheVariants.{Empty}
-use Rattle.amqp_bodies.specs.Bodies.{Empties, Making, BodyLaws, held_in, held_laws, itself_or_empty, itself_or_empty_laws}
+use Rattle.amqp_bodies.specs.Bodies.{Empties, Made, held_in, itself_or_empty}
 use Rattle.amqp_bodies.specs.BodyReading.{body_reading, body_bound}
 use Rattle.amqp_bodies.specs.BodyWriting.{body_writing}
 use Rattle.amqp_bodies.specs.BodyRewriting.{NoBodyFollows, null_code, each_again, IsEach, unread, body_rewrites}
@@ -70,31 +70,17 @@ abbrev pub empty_body : {T : Type 0} → Empties (Body T)
 empty_body = record { is = λ v. v ≡ Empty; test = is_empty; tested = λ v h. ap is_empty h }
 
 -- One of any kind is read as itself.
-abbrev pub body_making : {T : Type 0} → Reading (Body T) → Making (Body T) (Body T)
-body_making r = itself_or_empty r empty_body
-
-pub body_laws : {T : Type 0} (r : Reading (Body T)) → IsBoundByLimits r → BodyLaws r (body_making r)
-body_laws r bound = itself_or_empty_laws r bound empty_body
+abbrev pub body_made : {T : Type 0} (r : Reading (Body T)) → IsBoundByLimits r → Made (Body T) (Body T)
+body_made r bound = itself_or_empty r bound empty_body
 
 -- A value is read as itself, and what takes the place of a body is told by the value.
-abbrev pub in_value_empties : {T : Type 0} → Empties T → Empties (AmqpValue T)
-in_value_empties e = record { is = λ v. e.is v.0; test = λ v. e.test v.0; tested = λ v. e.tested v.0 }
+abbrev pub value_made : {T : Type 0} → TermType T → Empties T → Made (AmqpValue T) (AmqpValue T)
+value_made u e =
+    itself_or_empty (reading_of (section_of in_value value_naming u)) (term_bound (section_of in_value value_naming u))
+    (record { is = λ v. e.is v.0; test = λ v. e.test v.0; tested = λ v. e.tested v.0 })
 
-module _ {T : Type 0} (u : TermType T) (e : Empties T) where
-  abbrev values : Reading (AmqpValue T)
-  values = reading_of (section_of in_value value_naming u)
-
-  abbrev pub value_making : Making (AmqpValue T) (AmqpValue T)
-  value_making = itself_or_empty values (in_value_empties e)
-
-  pub value_laws : BodyLaws values value_making
-  value_laws = itself_or_empty_laws values (term_bound (section_of in_value value_naming u)) (in_value_empties e)
-
-  -- The value of a section, or what takes the place of a body that isn't there.
-  abbrev pub plain_making : Making (AmqpValue T) T
-  plain_making = held_in e u.same u.count (λ s. s.0)
-
-  pub plain_laws : BodyLaws values plain_making
-  plain_laws =
-      held_laws values (term_bound (section_of in_value value_naming u)) e u.same u.count (λ s. s.0) u.sameness.sym (λ s t h. h.1)
-      (λ s. omega arith)
+-- The value of a section, or what takes the place of a body that isn't there.
+abbrev pub plain_made : {T : Type 0} → TermType T → Empties T → Made (AmqpValue T) T
+plain_made u e =
+    held_in (reading_of (section_of in_value value_naming u)) (term_bound (section_of in_value value_naming u)) e u.same u.count
+    (λ s. s.0) u.sameness.sym (λ s t h. h.1) (λ s. omega arith)

@@ -16,7 +16,7 @@ use Rattle.amqp_batches.specs.Batches.{sections_in, batch_reading, batch_writing
 use Rattle.amqp_batches.specs.SectionGroups.{run_reading, group_bound, section_text, batch_text}
 use Rattle.amqp_batches.specs.laws.Walk.{no_term}
 use Rattle.amqp_batches.specs.GroupTexts.{GroupText, IsSound, widened}
-use Rattle.amqp_bodies.specs.Bodies.{Making, BodyLaws, Empties, itself_laws, section_laws, AreLinked, alike, both_empty, by_way_of, itself_or_empty_laws}
+use Rattle.amqp_bodies.specs.Bodies.{Made, Empties, itself, section_made, AreLinked, alike, both_empty, by_way_of, itself_or_empty}
 use Rattle.amqp_bodies.specs.SeenReading.{seen_reading, seen_bound, seen_text}
 use Rattle.amqp_bodies.specs.BodyRewriting.{IsBodyCode}
 
@@ -47,14 +47,14 @@ body_group {writing = writing} {follows} {again} {kept} {lasts} g = record {
 }
 
 -- A value is its own body, or takes the place of one that isn't there, and its text is read again.
-pub record IsBodyText {B : Type 0} {reading : Reading B} {making : Making B B} (laws : BodyLaws reading making) (writing : Writing B)
-    (follows : List ℕ → Type 0) (again : B → B) (kept lasts : B → Type 0) : Type 0 where
-  pub group : IsBodyGroup reading writing follows again kept lasts
-  pub to_body : (s v : B) → making.of_body s v → v ≡ s
-  pub of_itself : (v : B) → making.of_body v v
-  pub empty_sound : (v : B) → making.empty v → IsSound (body_group group) v
-  pub to_same : (v w : B) → making.same v w → reading.same v w
-  pub from_same : (v w : B) → reading.same v w → making.same v w
+pub record IsBodyText {B : Type 0} (made : Made B B) (writing : Writing B) (follows : List ℕ → Type 0) (again : B → B)
+    (kept lasts : B → Type 0) : Type 0 where
+  pub group : IsBodyGroup made.group writing follows again kept lasts
+  pub to_body : (s v : B) → made.of_body s v → v ≡ s
+  pub of_itself : (v : B) → made.of_body v v
+  pub empty_sound : (v : B) → made.empty v → IsSound (body_group group) v
+  pub to_same : (v w : B) → made.same v w → made.group.same v w
+  pub from_same : (v w : B) → made.group.same v w → made.same v w
 
 forget_least : {T : Type 0} {r : Reading T} {canons : T → List _} {is_value : T → Type 0} {follows : List ℕ → Type 0} {again : T → T}
     {kept lasts : T → Type 0} {is_least : Bool} → Rewriting r canons is_value follows again kept lasts is_least
@@ -78,7 +78,7 @@ group_is_body t = record { bound = t.bound; rewriting = forget_least t.rewriting
 
 -- What is read as itself is written as itself.
 pub itself_text : {B : Type 0} (r : Reading B) (bound : IsBoundByLimits r) (t : GroupText r IsBodyCode)
-    → IsBodyText (itself_laws r bound) t.writing t.follows t.again t.kept t.lasts
+    → IsBodyText (itself r bound) t.writing t.follows t.again t.kept t.lasts
 itself_text r bound t = record {
   group = group_is_body t;
   to_body = λ s v e. e;
@@ -97,7 +97,7 @@ linked_same r empty one v w (by_way_of x h k) = r.same_trans v x w (linked_same 
 -- So is what takes the place of a body, if it is read again and there is one such value at most.
 pub itself_or_empty_text : {B : Type 0} (r : Reading B) (bound : IsBoundByLimits r) (e : Empties B) (t : GroupText r IsBodyCode)
     → ((v : B) → e.is v → IsSound (body_group (group_is_body t)) v) → ((v w : B) → e.is v → e.is w → r.same v w)
-    → IsBodyText (itself_or_empty_laws r bound e) t.writing t.follows t.again t.kept t.lasts
+    → IsBodyText (itself_or_empty r bound e) t.writing t.follows t.again t.kept t.lasts
 itself_or_empty_text r bound e t sound one = record {
   group = group_is_body t;
   to_body = λ s v i. i;
@@ -109,7 +109,7 @@ itself_or_empty_text r bound e t sound one = record {
 
 -- One section.
 pub section_is_text : {S : Type 0} (c : ℕ) {u : TermType S} {w : Writing S} → IsSection c w → Agreement u w → IsBodyCode c
-    → IsBodyText (section_laws u) w (λ _. Unit {0}) (normal u.norm) (λ _. Unit {0}) (λ _. Unit {0})
+    → IsBodyText (section_made u) w (λ _. Unit {0}) (normal u.norm) (λ _. Unit {0}) (λ _. Unit {0})
 section_is_text c {u} s a is =
     itself_text (reading_of u) (term_bound u) (widened (λ k e. subst IsBodyCode (sym e) is) (section_text c s a))
 
@@ -119,7 +119,7 @@ repeated_code c (inr e) = inr (inl e)
 
 -- Several of one kind, of which there is one at least.
 pub batch_is_text : {T : Type 0} (c : ℕ) {u : TermType T} {w : Writing T} → IsSection c w → Agreement u w → (c ≡ 0x75) ⊎ (c ≡ 0x76)
-    → IsBodyText (itself_laws (seen_reading (run_reading c (batch_reading c (reading_of u)))) (seen_bound _ (group_bound c u)))
+    → IsBodyText (itself (seen_reading (run_reading c (batch_reading c (reading_of u)))) (seen_bound _ (group_bound c u)))
     (batch_writing w) (λ more. IsSectionAhead more c → ⊥) (batch_again u) (λ _. Unit {0}) (λ b. sections_in b ≡ [] → ⊥)
 batch_is_text c {u} s a is =
     itself_text (seen_reading (run_reading c (batch_reading c (reading_of u)))) (seen_bound _ (group_bound c u))

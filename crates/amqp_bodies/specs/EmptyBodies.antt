@@ -23,7 +23,7 @@ use Rattle.amqp_bodies.specs.declared.body.Body.TheVariants.{Value, Empty}
 use Rattle.amqp_bodies.specs.BodyReading.{body_reading}
 use Rattle.amqp_bodies.specs.BodyWriting.{null_section, body_writing}
 use Rattle.amqp_bodies.specs.BodyRewriting.{IsBodyCode, NoBodyFollows, each_again, IsEach, EmptyText, body_text, null_ahead}
-use Rattle.amqp_bodies.specs.BodySections.{value_section, empty_body, body_laws, any_body_bound, IsSome}
+use Rattle.amqp_bodies.specs.BodySections.{value_section, empty_body, body_made, any_body_bound, IsSome}
 use Rattle.amqp_bodies.specs.SeenReading.{seen_reading, seen_bound, seen_text}
 use Rattle.amqp_bodies.specs.BodyTexts.{IsBodyText, body_group, group_is_body, itself_or_empty_text}
 use Rattle.amqp_bodies.specs.NullBodies.{IsNull, values, null_bytes, null_begins, null_read}
@@ -94,7 +94,7 @@ module _ {T : Type 0} {uv : TermType T} {wv : Writing T} (av : Agreement uv wv) 
       subst (λ x. (seen_reading bodies).same x w) (sym e) (subst (λ x. (seen_reading bodies).same Empty x) (sym f) (tt, tt, tt))
 
   -- A body of any kind, of which one that isn't there is read again as a null.
-  pub body_is_text : IsBodyText (body_laws (seen_reading bodies) (seen_bound bodies (any_body_bound (values uv) ud us)))
+  pub body_is_text : IsBodyText (body_made (seen_reading bodies) (seen_bound bodies (any_body_bound (values uv) ud us)))
       (body_writing wn (batch_writing wd) (batch_writing ws)) NoBodyFollows (again_or_null (values uv) ud us nothing) IsSome
       HasNoEmptyBatch
   body_is_text =

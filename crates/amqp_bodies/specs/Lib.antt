@@ -17,4 +17,3 @@ pub mod SpelledBodies
 pub mod SpelledFaults
 pub mod SpelledReading
 pub mod NamedFaults
-pub mod MaybeBodies

@@ -21,7 +21,7 @@ use Rattle.amqp_batches.specs.GroupTexts.{GroupText, read_sound, widened}
 use Rattle.amqp_batches.specs.SectionGroups.{section_text}
 use Rattle.amqp_bodies.specs.Bodies.{Empties}
 use Rattle.amqp_bodies.specs.BodyRewriting.{IsBodyCode, null_code}
-use Rattle.amqp_bodies.specs.BodySections.{value_section, value_laws, in_value_empties}
+use Rattle.amqp_bodies.specs.BodySections.{value_section, value_made}
 use Rattle.amqp_bodies.specs.BodyTexts.{IsBodyText, body_group, group_is_body, itself_or_empty_text}
 
 -- The value is what a null means.
@@ -66,12 +66,12 @@ module _ {T : Type 0} (u : TermType T) where
 
 -- One value, which is a null if it takes the place of a body that isn't there.
 pub value_is_text : {T : Type 0} {u : TermType T} {w : Writing T} → Agreement u w → (e : Empties T) → ((v : T) → e.is v → IsNull u v)
-    → IsBodyText (value_laws u e) (section_writing in_value value_naming w) (λ _. Unit {0})
+    → IsBodyText (value_made u e) (section_writing in_value value_naming w) (λ _. Unit {0})
     (normal (section_of in_value value_naming u).norm) (λ _. Unit {0}) (λ _. Unit {0})
 value_is_text {u = u} {w} a e is =
     let t : GroupText (reading_of (values u)) IsBodyCode =
     widened (λ k i. inr (inr i)) (section_text 0x77 (value_section in_value w) (section_agreement in_value value_naming a)) in
     itself_or_empty_text (reading_of (values u)) (term_bound (values u))
-    (in_value_empties e) t
+    (record { is = λ v. e.is v.0; test = λ v. e.test v.0; tested = λ v. e.tested v.0 }) t
     (λ v h. read_sound (body_group (group_is_body t)) v (null_read u v (is v.0 h)))
     (λ v x h k. one_null u v x (is v.0 h) (is x.0 k))

@@ -6,8 +6,8 @@ use Rattle.amqp_codec.specs.Reading.{Reading}
 use Rattle.amqp_batches.specs.Bounds.{IsBoundByLimits}
 use Rattle.amqp_batches.specs.SectionGroups.{run_reading}
 use Rattle.amqp_bodies.specs.SeenReading.{seen_reading}
-use Rattle.amqp_bodies.specs.Bodies.{Making, BodyLaws}
-use Rattle.amqp_bodies.specs.SomeReading.{some_reading}
+use Rattle.amqp_bodies.specs.Bodies.{Made}
+use Rattle.amqp_bodies.specs.SomeReading.{some_reading, some_bound}
 
 -- Where there is nothing in what is read so, and what else stands in it, with the laws. `whole` is how the latter is read by itself.
 pub record Stripped {F S : Type 0} (group : Reading F) (whole : Reading S) : Type 1 where
@@ -17,18 +17,30 @@ pub record Stripped {F S : Type 0} (group : Reading F) (whole : Reading S) : Typ
   pub apart : (f g : F) (t : S) → group.same f g → is_nothing f → holds g t → ⊥
   pub counted : (f : F) (s : S) → holds f s → whole.count s ≤ group.count f
 
--- The value is absent where there is nothing in the body, and is else made of what stands in it.
-abbrev pub IsTransposed : {F S B : Type 0} {group : Reading F} {whole : Reading S} → Making S B → Stripped group whole → F → Option B → Type 0
-IsTransposed {S = S} m x f v = MatchOption v (x.is_nothing f) (λ b. (s : S) × x.holds f s × m.of_body s b)
+-- How a body is read in which there may be nothing.
+pub record Transposed (F : Type 0) {S : Type 0} (whole : Reading S) : Type 1 where
+  pub group : Reading F
+  pub bound : IsBoundByLimits group
+  pub stripped : Stripped group whole
 
-module _ {F S B : Type 0} {group : Reading F} {whole : Reading S} (m : Making S B) (x : Stripped group whole) where
+-- The value is absent where there is nothing in the body, and is else made of what stands in it.
+abbrev pub IsTransposed : {F S B : Type 0} (m : Made S B) → Transposed F m.group → F → Option B → Type 0
+IsTransposed {S = S} m t f v = MatchOption v (t.stripped.is_nothing f) (λ x. (s : S) × t.stripped.holds f s × m.of_body s x)
+
+module _ {F S B : Type 0} (m : Made S B) (t : Transposed F m.group) where
   abbrev pub count_made : Option B → ℕ
   count_made None = 0
   count_made (Some v) = m.count v
 
-  -- What is made of such a body; it is absent where the message has none.
-  abbrev pub option_making : Making F (Option B)
-  option_making = record { empty = λ v. v ≡ None; same = SameOption m.same; count = count_made; of_body = IsTransposed m x }
+  pub made_one : (f g : F) (v w : Option B) → t.group.same f g → IsTransposed m t f v → IsTransposed m t g w → SameOption m.same v w
+  made_one f g None None h i j = tt
+  made_one f g None (Some w) h i j = absurd (t.stripped.apart f g j.0 h i j.1)
+  made_one f g (Some v) None h i j = absurd (t.stripped.apart g f i.0 (t.group.same_sym f g h) j i.1)
+  made_one f g (Some v) (Some w) h i j = m.laws.one i.0 j.0 v w (t.stripped.one f g i.0 j.0 h i.1 j.1) i.2 j.2
+
+  pub made_counted : (f : F) (v : Option B) → IsTransposed m t f v → count_made v ≤ t.group.count f
+  made_counted f None i = omega arith
+  made_counted f (Some v) i = omega (arith, t.stripped.counted f i.0 i.1, m.laws.counted i.0 v i.2)
 
   pub one_none : (v w : Option B) → v ≡ None → w ≡ None → SameOption m.same v w
   one_none None None h k = tt
@@ -39,27 +51,24 @@ module _ {F S B : Type 0} {group : Reading F} {whole : Reading S} (m : Making S 
   none_counted None h = refl
   none_counted (Some v) h = absurd (cc)
 
-  module _ (laws : BodyLaws whole m) where
-    pub made_one : (f g : F) (v w : Option B) → group.same f g → IsTransposed m x f v → IsTransposed m x g w → SameOption m.same v w
-    made_one f g None None h i j = tt
-    made_one f g None (Some w) h i j = absurd (x.apart f g j.0 h i j.1)
-    made_one f g (Some v) None h i j = absurd (x.apart g f i.0 (group.same_sym f g h) j i.1)
-    made_one f g (Some v) (Some w) h i j = laws.one i.0 j.0 v w (x.one f g i.0 j.0 h i.1 j.1) i.2 j.2
-
-    pub made_counted : (f : F) (v : Option B) → IsTransposed m x f v → count_made v ≤ group.count f
-    made_counted f None i = omega arith
-    made_counted f (Some v) i = omega (arith, x.counted f i.0 i.1, laws.counted i.0 v i.2)
-
-    pub option_laws : IsBoundByLimits group → BodyLaws group option_making
-    option_laws bound = record {
-      bound = bound;
-      same_sym = option_sym m.same laws.same_sym;
-      same_trans = option_trans m.same laws.same_trans;
+  -- What is made of such a body; it is absent where the message has none.
+  abbrev pub option_made : Made F (Option B)
+  option_made = record {
+    group = t.group;
+    empty = λ v. v ≡ None;
+    same = SameOption m.same;
+    count = count_made;
+    of_body = IsTransposed m t;
+    laws = record {
+      bound = t.bound;
+      same_sym = option_sym m.same m.laws.same_sym;
+      same_trans = option_trans m.same m.laws.same_trans;
       one = made_one;
       counted = made_counted;
       one_empty = one_none;
       none_counted = none_counted;
-    }
+    };
+  }
 
 -- What may be absent as a whole, too.
 module _ {F S : Type 0} {group : Reading F} {whole : Reading S} (x : Stripped group whole) where
@@ -85,6 +94,9 @@ module _ {F S : Type 0} {group : Reading F} {whole : Reading S} (x : Stripped gr
 
   abbrev pub some_stripped : Stripped (some_reading group) whole
   some_stripped = record { is_nothing = IsNothing; holds = HoldsIn; one = some_holds_one; apart = some_apart; counted = some_held_counted }
+
+  abbrev pub optional : IsBoundByLimits group → Transposed (Option F) whole
+  optional bound = record { group = some_reading group; bound = some_bound group bound; stripped = some_stripped }
 
 -- What is read is there unless it is empty.
 module _ {F : Type 0} (r : Reading F) (is_empty : F → Type 0) (kept : (f g : F) → r.same f g → is_empty f → is_empty g) where

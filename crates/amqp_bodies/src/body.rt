@@ -8,7 +8,7 @@ ghost use Rattle.amqp_sections.specs.Sections.{data_naming, in_data, sequence_na
 ghost use Rattle.amqp_batches.specs.RepeatedSections.{data_section, sequence_section};
 ghost use Rattle.amqp_bodies.specs.BodyRewriting.{NoBodyFollows};
 ghost use Rattle.amqp_bodies.specs.BodySections.{again_as_body, IsReadAsBody, IsSome, value_section, any_body_rewrites};
-ghost use Rattle.amqp_bodies.specs.BodySections.{empty_body, body_making, body_laws, any_body_bound};
+ghost use Rattle.amqp_bodies.specs.BodySections.{empty_body, body_made, any_body_bound};
 ghost use Rattle.amqp_codec.specs.TermReading.{reading_of};
 ghost use Rattle.amqp_bodies.specs.BodyReading.{body_reading};
 ghost use Rattle.amqp_bodies.specs.SeenReading.{seen_reading, seen_rewrites, seen_bound};
@@ -148,14 +148,14 @@ impl<T> FromEmptyBody for Body<T> {
 impl<T: DeserializeTerm> FromBody for Body<T> {
     type Body = Body<T>;
 
-    ghost making = { body_making ⟦<Body<T> as Deserialize>⟧.reading };
+    ghost made = { body_made ⟦<Body<T> as Deserialize>⟧.reading (seen_bound _ (any_body_bound
+        ⟦<AmqpValue<T> as DeserializeTerm>⟧.term ⟦<Data as DeserializeTerm>⟧.term ⟦<AmqpSequence<T> as DeserializeTerm>⟧.term)) };
 
     fn from_body(body: Body<T>, _alloc: Global) -> Result<Body<T>, Error> {
         Ok(body)
     }
 
-    ghost laws = { body_laws ⟦<Body<T> as Deserialize>⟧.reading (seen_bound _ (any_body_bound
-        ⟦<AmqpValue<T> as DeserializeTerm>⟧.term ⟦<Data as DeserializeTerm>⟧.term ⟦<AmqpSequence<T> as DeserializeTerm>⟧.term)) };
+    ghost group_is = { refl };
 
     ghost empty_is = { λ v h. h };
 

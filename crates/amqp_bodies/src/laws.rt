@@ -22,8 +22,8 @@ use amqp_sections::{AmqpSequence, AmqpValue, Data};
 /// limits. They do if n is at most the limit on bytes, and their sections nest no deeper and have together no more items than the limits
 /// allow. A described value is one with its descriptor.
 pub fn limits_bound_bodies<B: FromBody>()
-    ensures within { (limits : Limits) (input : List ℕ) (body : B.Body) (n : ℕ) → BeginsWithin limits B.Body.group input body n
-        ↔ (BeginsWith B.Body.group input body n × Has (limit_of limits.bytes) n × AreAllowed limits (take n input)) }
+    ensures within { (limits : Limits) (input : List ℕ) (body : B.Body) (n : ℕ) → BeginsWithin limits B.made.group input body n
+        ↔ (BeginsWith B.made.group input body n × Has (limit_of limits.bytes) n × AreAllowed limits (take n input)) }
 {}
 
 /// A clone of a body is of the same kind, and holds a clone of what the body holds.
@@ -45,23 +45,23 @@ pub fn copies_are_equal<T: Clone + PartialEq>()
 
 /// What is made of the body that a value is made into is that value again.
 pub fn values_are_made_again<T: PlainIntoBody + ValueFromBody>()
-    ensures { (v w : T) → ⟦<T as FromBody>⟧.making.of_body (⟦<T as IntoBody>⟧.body v) w ↔ (w ≡ v) }
+    ensures { (v w : T) → ⟦<T as FromBody>⟧.made.of_body (⟦<T as IntoBody>⟧.body v) w ↔ (w ≡ v) }
 {}
 
 /// So it is for a section with a value.
 pub fn value_sections_are_made_again<T: DeserializeTerm + FromEmptyBody>()
-    ensures { (v w : ValueOf T) → ⟦<AmqpValue<T> as FromBody>⟧.making.of_body (⟦<AmqpValue<T> as IntoBody>⟧.body v) w ↔ (w ≡ v) }
+    ensures { (v w : ValueOf T) → ⟦<AmqpValue<T> as FromBody>⟧.made.of_body (⟦<AmqpValue<T> as IntoBody>⟧.body v) w ↔ (w ≡ v) }
 {}
 
 /// So it is for a body of any kind, for a section with bytes, and for one with a list.
 pub fn bodies_are_made_again<T: DeserializeTerm>()
-    ensures any { (v w : BodyOf T) → ⟦<Body<T> as FromBody>⟧.making.of_body (⟦<Body<T> as IntoBody>⟧.body v) w ↔ (w ≡ v) }
-    ensures data_ { (v w : DataOf) → ⟦<Data as FromBody>⟧.making.of_body (⟦<Data as IntoBody>⟧.body v) w ↔ (w ≡ v) }
-    ensures sequence { (v w : SequenceOf T) → ⟦<AmqpSequence<T> as FromBody>⟧.making.of_body (⟦<AmqpSequence<T> as IntoBody>⟧.body v) w
+    ensures any { (v w : BodyOf T) → ⟦<Body<T> as FromBody>⟧.made.of_body (⟦<Body<T> as IntoBody>⟧.body v) w ↔ (w ≡ v) }
+    ensures data_ { (v w : DataOf) → ⟦<Data as FromBody>⟧.made.of_body (⟦<Data as IntoBody>⟧.body v) w ↔ (w ≡ v) }
+    ensures sequence { (v w : SequenceOf T) → ⟦<AmqpSequence<T> as FromBody>⟧.made.of_body (⟦<AmqpSequence<T> as IntoBody>⟧.body v) w
         ↔ (w ≡ v) }
 {}
 
 /// So it is for a batch of such sections.
 pub fn batches_are_made_again<T: BatchItem + DeserializeTerm>()
-    ensures { (v w : TransparentVec T) → ⟦<Batch<T> as FromBody>⟧.making.of_body (⟦<Batch<T> as IntoBody>⟧.body v) w ↔ (w ≡ v) }
+    ensures { (v w : TransparentVec T) → ⟦<Batch<T> as FromBody>⟧.made.of_body (⟦<Batch<T> as IntoBody>⟧.body v) w ↔ (w ≡ v) }
 {}

@@ -42,7 +42,7 @@ where
 {
     type Body = <T::Body as TransposeOption<T>>::From;
 
-    ghost making = { T.Body.transposing };
+    ghost made = { T.Body.transposed };
 
     fn from_body(
         body: <T::Body as TransposeOption<T>>::From,
@@ -51,7 +51,7 @@ where
         <T::Body as TransposeOption<T>>::transpose(body, alloc)
     }
 
-    ghost laws = { T.Body.transposing_laws };
+    ghost group_is = { T.Body.from_is };
 
     ghost empty_is = { T.Body.none_is };
 

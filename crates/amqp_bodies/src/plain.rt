@@ -1,6 +1,7 @@
 //! Values that are read from the body of a message (Part 3, section 3.2.8).
+ghost use Rattle.std.specs.Prelude.{refl};
 ghost use Rattle.amqp_bodies.specs.Bodies.{no_value};
-ghost use Rattle.amqp_bodies.specs.BodySections.{plain_making, plain_laws};
+ghost use Rattle.amqp_bodies.specs.BodySections.{plain_made};
 
 use crate::traits::{FromBody, FromEmptyBody, PlainFromBody, ValueBody, ValueFromBody};
 use amqp_codec::{DeserializeTerm, MapKey, Symbol};
@@ -37,13 +38,13 @@ impl ValueFromBody for LazyValue {}
 impl<T: ValueFromBody> FromBody for T {
     type Body = AmqpValue<T>;
 
-    ghost making = { plain_making T.term T.empties };
+    ghost made = { plain_made T.term T.empties };
 
     fn from_body(body: AmqpValue<T>, _alloc: Global) -> Result<T, Error> {
         Ok(body.0)
     }
 
-    ghost laws = { plain_laws T.term T.empties };
+    ghost group_is = { refl };
 
     ghost empty_is = { λ v h. h };
 

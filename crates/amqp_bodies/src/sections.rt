@@ -14,8 +14,8 @@ ghost use Rattle.amqp_bodies.specs.BodyTexts.{section_is_text, batch_is_text};
 ghost use Rattle.amqp_bodies.specs.NullBodies.{value_is_text};
 ghost use Rattle.amqp_codec.specs.TermReading.{reading_of};
 ghost use Rattle.amqp_batches.specs.SectionGroups.{run_reading, group_bound};
-ghost use Rattle.amqp_bodies.specs.Bodies.{itself, itself_laws, section_making, section_laws, no_value};
-ghost use Rattle.amqp_bodies.specs.BodySections.{value_making, value_laws};
+ghost use Rattle.amqp_bodies.specs.Bodies.{itself, section_made, no_value};
+ghost use Rattle.amqp_bodies.specs.BodySections.{value_made};
 ghost use Rattle.amqp_bodies.specs.SeenReading.{seen_reading, seen_bound};
 ghost use Rattle.amqp_batches.specs.Spellings.{IsTerm, IsSection, IsBatch};
 ghost use Rattle.amqp_batches.specs.SpellingFaults.{IsNoTerm, IsRunFault, IsSectionFault};
@@ -183,13 +183,13 @@ impl<T> FromEmptyBody for TransparentVec<T> {
 impl<T: DeserializeTerm + FromEmptyBody> FromBody for AmqpValue<T> {
     type Body = AmqpValue<T>;
 
-    ghost making = { value_making T.term T.empties };
+    ghost made = { value_made T.term T.empties };
 
     fn from_body(body: AmqpValue<T>, _alloc: Global) -> Result<AmqpValue<T>, Error> {
         Ok(body)
     }
 
-    ghost laws = { value_laws T.term T.empties };
+    ghost group_is = { refl };
 
     ghost empty_is = { λ v h. h };
 
@@ -199,13 +199,13 @@ impl<T: DeserializeTerm + FromEmptyBody> FromBody for AmqpValue<T> {
 impl<T: DeserializeTerm> FromBody for AmqpSequence<T> {
     type Body = AmqpSequence<T>;
 
-    ghost making = { section_making ⟦<AmqpSequence<T> as DeserializeTerm>⟧.term };
+    ghost made = { section_made ⟦<AmqpSequence<T> as DeserializeTerm>⟧.term };
 
     fn from_body(body: AmqpSequence<T>, _alloc: Global) -> Result<AmqpSequence<T>, Error> {
         Ok(body)
     }
 
-    ghost laws = { section_laws ⟦<AmqpSequence<T> as DeserializeTerm>⟧.term };
+    ghost group_is = { refl };
 
     ghost empty_is = { λ v h. h };
 
@@ -215,13 +215,13 @@ impl<T: DeserializeTerm> FromBody for AmqpSequence<T> {
 impl FromBody for Data {
     type Body = Data;
 
-    ghost making = { section_making ⟦<Data as DeserializeTerm>⟧.term };
+    ghost made = { section_made ⟦<Data as DeserializeTerm>⟧.term };
 
     fn from_body(body: Data, _alloc: Global) -> Result<Data, Error> {
         Ok(body)
     }
 
-    ghost laws = { section_laws ⟦<Data as DeserializeTerm>⟧.term };
+    ghost group_is = { refl };
 
     ghost empty_is = { λ v h. h };
 
@@ -231,13 +231,14 @@ impl FromBody for Data {
 impl<T: BatchItem + DeserializeTerm> FromBody for TransparentVec<T> {
     type Body = TransparentVec<T>;
 
-    ghost making = { itself ⟦<TransparentVec<T> as DeserializableBody>⟧.group };
+    ghost made = { itself (seen_reading (run_reading T.code ⟦<TransparentVec<T> as Deserialize>⟧.reading))
+        (seen_bound _ (group_bound T.code T.term)) };
 
     fn from_body(body: TransparentVec<T>, _alloc: Global) -> Result<TransparentVec<T>, Error> {
         Ok(body)
     }
 
-    ghost laws = { itself_laws ⟦<TransparentVec<T> as DeserializableBody>⟧.group (seen_bound _ (group_bound T.code T.term)) };
+    ghost group_is = { refl };
 
     ghost empty_is = { λ v h. h };
 

@@ -12,7 +12,8 @@ ghost use Rattle.amqp_batches.specs.Spellings.{Spells};
 ghost use Rattle.amqp_batches.specs.SpellingFaults.{Faults};
 ghost use Rattle.amqp_batches.specs.laws.ReadAs.{IsReadAs};
 ghost use Rattle.amqp_batches.specs.laws.NamedAs.{IsNamedAs};
-ghost use Rattle.amqp_bodies.specs.Bodies.{Empties, Making, BodyLaws};
+ghost use Rattle.amqp_bodies.specs.SomeReading.{some_reading};
+ghost use Rattle.amqp_bodies.specs.Bodies.{Empties, Made};
 
 use amqp_codec::{DeserializeTerm, Serialize, SerializeTerm};
 use amqp_decoder::Decoder;
@@ -93,21 +94,21 @@ pub trait FromBody: FromEmptyBody + Drop {
     /// The type that it is read as.
     type Body: DeserializableBody;
 
-    // Which values are made of the body.
-    ghost making: { Making Self.Body Self };
+    // How the body is read, and the value made of it, with the laws.
+    ghost made: { Made Self.Body Self };
 
     /// Returns the value that is made of the body. The only error is `Memory`.
     fn from_body(body: Self::Body, alloc: Global) -> Result<Self, Error>
-        ensures value { IfOk result (λ v. making.of_body body v) }
+        ensures value { IfOk result (λ v. made.of_body body v) }
         ensures memory { IfErr result (λ e. e ≡ Memory) };
 
-    // The laws.
-    ghost laws: { BodyLaws Self.Body.group making };
+    // It is read as its type says.
+    ghost group_is: { made.group ≡ Self.Body.group };
 
     // The values that take the place of an absent body are those that `from_empty_body` states.
-    ghost empty_is: { (v : Self) → Self.FromEmptyBody.empties.is v → making.empty v };
+    ghost empty_is: { (v : Self) → Self.FromEmptyBody.empties.is v → made.empty v };
 
-    ghost is_empty: { (v : Self) → making.empty v → Self.FromEmptyBody.empties.is v };
+    ghost is_empty: { (v : Self) → made.empty v → Self.FromEmptyBody.empties.is v };
 }
 
 /// A body in which there may be nothing. Nothing is a null in an `AmqpValue`, an empty `AmqpSequence` or `Data`, or a batch without
@@ -116,21 +117,41 @@ pub trait TransposeOption<To: FromBody>: BodySection + Sized {
     /// The type that it is read as.
     type From: DeserializableBody;
 
-    // What is made of it.
-    ghost transposing: { Making Self.From (Option To) };
+    // How it is read, and what is made of it, with the laws.
+    ghost transposed: { Made Self.From (Option To) };
 
     /// Returns what is made of the body, or `None` if there is nothing in it. The only error is `Memory`.
     fn transpose(src: Self::From, alloc: Global) -> Result<Option<To>, Error>
-        ensures value { IfOk result (λ v. transposing.of_body src v) }
+        ensures value { IfOk result (λ v. transposed.of_body src v) }
         ensures memory { IfErr result (λ e. e ≡ Memory) };
 
-    // The laws.
-    ghost transposing_laws: { BodyLaws Self.From.group transposing };
+    // It is read as its type says.
+    ghost from_is: { transposed.group ≡ Self.From.group };
 
     // What takes the place of an absent body is `None`.
-    ghost none_is: { (v : Option To) → v ≡ None → transposing.empty v };
+    ghost none_is: { (v : Option To) → v ≡ None → transposed.empty v };
 
-    ghost is_none: { (v : Option To) → transposing.empty v → v ≡ None };
+    ghost is_none: { (v : Option To) → transposed.empty v → v ≡ None };
+}
+
+/// A body that may be empty, and is `None` then. It isn't exported, so no other crate adds one.
+pub trait EmptyIsNothing: DeserializableBody + FromBody<Body = Self> {
+    // How it is read if it may be absent, and what is made of it, with the laws.
+    ghost optional: { Made (Option Self) (Option Self) };
+
+    /// Returns itself, or `None` if it is empty.
+    fn unless_empty(self) -> Option<Self>
+        ensures { optional.of_body (Some self) result };
+
+    // It is read as itself, where it is there.
+    ghost optional_is: { optional.group ≡ some_reading Self.group };
+
+    // An absent body is made of an absent one, and takes its place.
+    ghost of_none: { optional.of_body None None };
+
+    ghost none_is: { (v : Option Self) → v ≡ None → optional.empty v };
+
+    ghost is_none: { (v : Option Self) → optional.empty v → v ≡ None };
 }
 
 /// What can be both written and read as the body of a message, so that each message has one canonical text.
@@ -145,7 +166,7 @@ pub trait CanonicalBody: FromBody<Body = Self> + SerializableBody {
     ghost lasts: { Self → Type 0 };
 
     // The laws.
-    ghost is_text: { IsBodyText Self.laws Self.writing follows again kept lasts };
+    ghost is_text: { IsBodyText Self.made Self.writing follows again kept lasts };
 }
 
 /// What can be the value of a message's body, so that a message that has no body is read again from its text.

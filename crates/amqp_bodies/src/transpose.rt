@@ -1,18 +1,22 @@
 //! Bodies in which there may be nothing (Part 3, sections 3.2.6 to 3.2.8).
-ghost use Rattle.std.specs.Prelude.{◌≡◌, [], None, IfOk, IfErr, MatchOption};
+ghost use Rattle.std.specs.Prelude.{◌≡◌, [], None, IfOk, IfErr, MatchOption, refl};
 ghost use Rattle.std.specs.List.{AllZip, Any};
 ghost use Rattle.amqp_wire.specs.declared.error.Error.TheVariants.{Memory};
+ghost use Rattle.amqp_batches.specs.laws.Bound.{term_bound};
 ghost use Rattle.amqp_batches.specs.Batches.{sections_in};
-ghost use Rattle.amqp_bodies.specs.Transposing.{option_making, option_laws};
-ghost use Rattle.amqp_bodies.specs.StrippedBodies.{HasNone, AreAll};
-ghost use Rattle.amqp_bodies.specs.MaybeBodies.{maybe_value, maybe_value_bound, maybe_sequence, maybe_sequence_bound};
-ghost use Rattle.amqp_bodies.specs.MaybeBodies.{maybe_sequences, maybe_sequences_bound, maybe_data, maybe_data_bound};
-ghost use Rattle.amqp_bodies.specs.MaybeBodies.{maybe_datas, maybe_datas_bound, maybe_body, maybe_body_bound};
+ghost use Rattle.amqp_batches.specs.SectionGroups.{group_bound};
+ghost use Rattle.amqp_bodies.specs.Bodies.{section_made};
+ghost use Rattle.amqp_bodies.specs.BodySections.{any_body_bound};
+ghost use Rattle.amqp_bodies.specs.SeenReading.{seen_bound};
+ghost use Rattle.amqp_bodies.specs.Transposing.{optional, option_made, seen_stripped, run_stripped};
+ghost use Rattle.amqp_bodies.specs.StrippedBodies.{HasNone, AreAll, value_stripped, sequence_stripped, batch_stripped};
+ghost use Rattle.amqp_bodies.specs.StrippedBodies.{data_stripped, data_batch_stripped};
+ghost use Rattle.amqp_bodies.specs.StrippedKinds.{body_stripped};
 
 use crate::body::Body;
-use crate::traits::{FromBody, TransposeOption};
+use crate::traits::{EmptyIsNothing, FromBody, FromEmptyBody, TransposeOption, ValueFromBody};
 use amqp_batches::{Batch, TransparentVec};
-use amqp_codec::DeserializeTerm;
+use amqp_codec::{Deserialize, DeserializeTerm};
 use amqp_sections::{AmqpSequence, AmqpValue, Data};
 use amqp_wire::Error;
 use std::alloc::Global;
@@ -60,19 +64,44 @@ fn all_sequences<T: Drop>(
 }
 
 /// A null is `None`.
-impl<T: DeserializeTerm, To: FromBody<Body = AmqpValue<T>>> TransposeOption<To> for AmqpValue<T> {
+impl<T: ValueFromBody> TransposeOption<T> for AmqpValue<T> {
     type From = Option<AmqpValue<Option<T>>>;
 
-    ghost transposing = { option_making To.making (maybe_value T.term) };
+    ghost transposed = { option_made ⟦<T as FromBody>⟧.made
+        (optional (value_stripped T.term) (term_bound ⟦<AmqpValue<Option<T>> as DeserializeTerm>⟧.term)) };
 
-    fn transpose(src: Option<AmqpValue<Option<T>>>, alloc: Global) -> Result<Option<To>, Error> {
+    fn transpose(src: Option<AmqpValue<Option<T>>>, alloc: Global) -> Result<Option<T>, Error> {
         match src {
-            Some(AmqpValue(Some(value))) => Ok(Some(To::from_body(AmqpValue(value), alloc)?)),
+            Some(AmqpValue(Some(value))) => Ok(Some(T::from_body(AmqpValue(value), alloc)?)),
             Some(AmqpValue(None)) | None => Ok(None),
         }
     }
 
-    ghost transposing_laws = { option_laws To.making (maybe_value T.term) To.laws (maybe_value_bound T.term) };
+    ghost from_is = { refl };
+
+    ghost none_is = { λ v h. h };
+
+    ghost is_none = { λ v h. h };
+}
+
+/// A null is `None`.
+impl<T: DeserializeTerm + FromEmptyBody> TransposeOption<AmqpValue<T>> for AmqpValue<T> {
+    type From = Option<AmqpValue<Option<T>>>;
+
+    ghost transposed = { option_made ⟦<AmqpValue<T> as FromBody>⟧.made
+        (optional (value_stripped T.term) (term_bound ⟦<AmqpValue<Option<T>> as DeserializeTerm>⟧.term)) };
+
+    fn transpose(
+        src: Option<AmqpValue<Option<T>>>,
+        _alloc: Global,
+    ) -> Result<Option<AmqpValue<T>>, Error> {
+        match src {
+            Some(AmqpValue(Some(value))) => Ok(Some(AmqpValue(value))),
+            Some(AmqpValue(None)) | None => Ok(None),
+        }
+    }
+
+    ghost from_is = { refl };
 
     ghost none_is = { λ v h. h };
 
@@ -80,20 +109,23 @@ impl<T: DeserializeTerm, To: FromBody<Body = AmqpValue<T>>> TransposeOption<To> 
 }
 
 /// A sequence without items is `None`, and so is one with a null among them.
-impl<T: DeserializeTerm, To: FromBody<Body = AmqpSequence<T>>> TransposeOption<To>
-    for AmqpSequence<T> {
+impl<T: DeserializeTerm> TransposeOption<AmqpSequence<T>> for AmqpSequence<T> {
     type From = Option<AmqpSequence<Option<T>>>;
 
-    ghost transposing = { option_making To.making (maybe_sequence T.term) };
+    ghost transposed = { option_made ⟦<AmqpSequence<T> as FromBody>⟧.made
+        (optional (sequence_stripped T.term) (term_bound ⟦<AmqpSequence<Option<T>> as DeserializeTerm>⟧.term)) };
 
-    fn transpose(src: Option<AmqpSequence<Option<T>>>, alloc: Global) -> Result<Option<To>, Error> {
+    fn transpose(
+        src: Option<AmqpSequence<Option<T>>>,
+        alloc: Global,
+    ) -> Result<Option<AmqpSequence<T>>, Error> {
         match src {
             Some(sequence) => match all_items(sequence.0, alloc)? {
                 Some(items) => {
                     if items.is_empty() {
                         return Ok(None);
                     }
-                    Ok(Some(To::from_body(AmqpSequence(items), alloc)?))
+                    Ok(Some(AmqpSequence(items)))
                 }
                 None => Ok(None),
             },
@@ -101,7 +133,7 @@ impl<T: DeserializeTerm, To: FromBody<Body = AmqpSequence<T>>> TransposeOption<T
         }
     }
 
-    ghost transposing_laws = { option_laws To.making (maybe_sequence T.term) To.laws (maybe_sequence_bound T.term) };
+    ghost from_is = { refl };
 
     ghost none_is = { λ v h. h };
 
@@ -109,26 +141,25 @@ impl<T: DeserializeTerm, To: FromBody<Body = AmqpSequence<T>>> TransposeOption<T
 }
 
 /// A batch without sequences is `None`, and so is one with a null among the items of a sequence.
-impl<T: DeserializeTerm, To: FromBody<Body = TransparentVec<AmqpSequence<T>>>> TransposeOption<To>
+impl<T: DeserializeTerm> TransposeOption<TransparentVec<AmqpSequence<T>>>
     for TransparentVec<AmqpSequence<T>> {
     type From = Option<TransparentVec<AmqpSequence<Option<T>>>>;
 
-    ghost transposing = { option_making To.making (maybe_sequences T.term) };
+    ghost transposed = { option_made ⟦<TransparentVec<AmqpSequence<T>> as FromBody>⟧.made
+        (optional (seen_stripped (run_stripped 0x76 (batch_stripped T.term)))
+        (seen_bound _ (group_bound 0x76 ⟦<AmqpSequence<Option<T>> as DeserializeTerm>⟧.term))) };
 
     fn transpose(
         src: Option<TransparentVec<AmqpSequence<Option<T>>>>,
         alloc: Global,
-    ) -> Result<Option<To>, Error> {
+    ) -> Result<Option<TransparentVec<AmqpSequence<T>>>, Error> {
         match src {
-            Some(batch) if !batch.is_empty() => match all_sequences(batch, alloc)? {
-                Some(sequences) => Ok(Some(To::from_body(sequences, alloc)?)),
-                None => Ok(None),
-            },
+            Some(batch) if !batch.is_empty() => all_sequences(batch, alloc),
             Some(_) | None => Ok(None),
         }
     }
 
-    ghost transposing_laws = { option_laws To.making (maybe_sequences T.term) To.laws (maybe_sequences_bound T.term) };
+    ghost from_is = { refl };
 
     ghost none_is = { λ v h. h };
 
@@ -136,19 +167,20 @@ impl<T: DeserializeTerm, To: FromBody<Body = TransparentVec<AmqpSequence<T>>>> T
 }
 
 /// Data without bytes is `None`.
-impl<To: FromBody<Body = Data>> TransposeOption<To> for Data {
-    type From = Option<Data>;
+impl EmptyIsNothing for Data {
+    ghost optional = { option_made (section_made ⟦<Data as DeserializeTerm>⟧.term)
+        (optional data_stripped (term_bound ⟦<Data as DeserializeTerm>⟧.term)) };
 
-    ghost transposing = { option_making To.making maybe_data };
-
-    fn transpose(src: Option<Data>, alloc: Global) -> Result<Option<To>, Error> {
-        match src {
-            Some(section) if !section.0.0.is_empty() => Ok(Some(To::from_body(section, alloc)?)),
-            Some(_) | None => Ok(None),
+    fn unless_empty(self) -> Option<Data> {
+        if self.0.0.is_empty() {
+            return None;
         }
+        Some(self)
     }
 
-    ghost transposing_laws = { option_laws To.making maybe_data To.laws maybe_data_bound };
+    ghost optional_is = { refl };
+
+    ghost of_none = { tt };
 
     ghost none_is = { λ v h. h };
 
@@ -156,45 +188,75 @@ impl<To: FromBody<Body = Data>> TransposeOption<To> for Data {
 }
 
 /// A batch without sections is `None`.
-impl<To: FromBody<Body = TransparentVec<Data>>> TransposeOption<To> for TransparentVec<Data> {
+impl TransposeOption<TransparentVec<Data>> for TransparentVec<Data> {
     type From = Option<TransparentVec<Data>>;
 
-    ghost transposing = { option_making To.making maybe_datas };
+    ghost transposed = { option_made ⟦<TransparentVec<Data> as FromBody>⟧.made
+        (optional (seen_stripped (run_stripped 0x75 data_batch_stripped))
+        (seen_bound _ (group_bound 0x75 ⟦<Data as DeserializeTerm>⟧.term))) };
 
-    fn transpose(src: Option<TransparentVec<Data>>, alloc: Global) -> Result<Option<To>, Error> {
+    fn transpose(
+        src: Option<TransparentVec<Data>>,
+        alloc: Global,
+    ) -> Result<Option<TransparentVec<Data>>, Error> {
         match src {
-            Some(batch) if !batch.is_empty() => Ok(Some(To::from_body(batch, alloc)?)),
+            Some(batch) if !batch.is_empty() => Ok(Some(batch)),
             Some(_) | None => Ok(None),
         }
     }
 
-    ghost transposing_laws = { option_laws To.making maybe_datas To.laws maybe_datas_bound };
+    ghost from_is = { refl };
 
     ghost none_is = { λ v h. h };
 
     ghost is_none = { λ v h. h };
 }
 
-/// Each of these is `None`: a null, a batch without sections, a null among the items of a sequence, and no body.
-impl<T: DeserializeTerm, To: FromBody<Body = Body<T>>> TransposeOption<To> for Body<T> {
-    type From = Body<Option<T>>;
+/// An empty body is `None`.
+impl<T: EmptyIsNothing> TransposeOption<T> for T {
+    type From = Option<T>;
 
-    ghost transposing = { option_making To.making (maybe_body T.term) };
+    ghost transposed = { T.optional };
 
-    fn transpose(src: Body<Option<T>>, alloc: Global) -> Result<Option<To>, Error> {
-        let body = match src {
-            Body::Value(AmqpValue(Some(value))) => Body::Value(AmqpValue(value)),
-            Body::Data(batch) if !batch.is_empty() => Body::Data(batch),
-            Body::Sequence(batch) if !batch.is_empty() => match all_sequences(batch, alloc)? {
-                Some(sequences) => Body::Sequence(sequences),
-                None => return Ok(None),
-            },
-            _ => return Ok(None),
-        };
-        Ok(Some(To::from_body(body, alloc)?))
+    fn transpose(src: Option<T>, _alloc: Global) -> Result<Option<T>, Error> {
+        match src {
+            Some(body) => Ok(body.unless_empty()),
+            None => Ok(None),
+        }
     }
 
-    ghost transposing_laws = { option_laws To.making (maybe_body T.term) To.laws (maybe_body_bound T.term) };
+    ghost from_is = { T.optional_is };
+
+    ghost none_is = { T.none_is };
+
+    ghost is_none = { T.is_none };
+}
+
+/// Each of these is `None`: a null, a batch without sections, a null among the items of a sequence, and no body.
+impl<T: DeserializeTerm> TransposeOption<Body<T>> for Body<T> {
+    type From = Body<Option<T>>;
+
+    ghost transposed = { option_made ⟦<Body<T> as FromBody>⟧.made
+        (record {
+          group = ⟦<Body<Option<T>> as Deserialize>⟧.reading;
+          bound = seen_bound _ (any_body_bound ⟦<AmqpValue<Option<T>> as DeserializeTerm>⟧.term
+              ⟦<Data as DeserializeTerm>⟧.term ⟦<AmqpSequence<Option<T>> as DeserializeTerm>⟧.term);
+          stripped = seen_stripped (body_stripped (value_stripped T.term) data_batch_stripped (batch_stripped T.term));
+        }) };
+
+    fn transpose(src: Body<Option<T>>, alloc: Global) -> Result<Option<Body<T>>, Error> {
+        match src {
+            Body::Value(AmqpValue(Some(value))) => Ok(Some(Body::Value(AmqpValue(value)))),
+            Body::Data(batch) if !batch.is_empty() => Ok(Some(Body::Data(batch))),
+            Body::Sequence(batch) if !batch.is_empty() => match all_sequences(batch, alloc)? {
+                Some(sequences) => Ok(Some(Body::Sequence(sequences))),
+                None => Ok(None),
+            },
+            _ => Ok(None),
+        }
+    }
+
+    ghost from_is = { refl };
 
     ghost none_is = { λ v h. h };
 

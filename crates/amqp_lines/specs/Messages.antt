@@ -29,9 +29,9 @@ use Rattle.amqp_batches.specs.Batches.{batch_reading, batch_writing}
 use Rattle.amqp_batches.specs.SectionGroups.{run_reading, group_bound}
 use Rattle.amqp_batches.specs.WalkReading.{walk_reading, reading_via}
 use Rattle.amqp_bodies.specs.declared.body.Body.{Body}
-use Rattle.amqp_bodies.specs.Bodies.{Making, BodyLaws, itself, itself_laws, section_making, section_laws}
+use Rattle.amqp_bodies.specs.Bodies.{Made, itself, section_made}
 use Rattle.amqp_bodies.specs.BodyReading.{body_reading}
-use Rattle.amqp_bodies.specs.BodySections.{any_body_bound, body_making, body_laws, value_making, value_laws}
+use Rattle.amqp_bodies.specs.BodySections.{any_body_bound, body_made, value_made}
 use Rattle.amqp_bodies.specs.BodyWriting.{body_writing}
 use Rattle.amqp_bodies.specs.PlainBodies.{null_value}
 use Rattle.amqp_bodies.specs.SeenReading.{seen_reading, seen_bound}
@@ -82,27 +82,24 @@ abbrev pub any_body_writing : Writing (Body Value)
 any_body_writing = body_writing one_value_writing data_batch_writing sequence_batch_writing
 
 -- How the bodies of messages are read: of any kind, one value, one section of data, and several.
-abbrev pub of_any_body : BodyLaws any_body (body_making any_body)
-of_any_body = body_laws any_body (seen_bound _ (any_body_bound one_value_type data_type sequence_type))
+abbrev pub of_any_body : Made (Body Value) (Body Value)
+of_any_body = body_made any_body (seen_bound _ (any_body_bound one_value_type data_type sequence_type))
 
-abbrev pub of_one_value : BodyLaws (reading_of one_value_type) (value_making value_type null_value)
-of_one_value = value_laws value_type null_value
+abbrev pub of_one_value : Made (AmqpValue Value) (AmqpValue Value)
+of_one_value = value_made value_type null_value
 
-abbrev pub of_data : BodyLaws (reading_of data_type) (section_making data_type)
-of_data = section_laws data_type
+abbrev pub of_data : Made Data Data
+of_data = section_made data_type
 
-abbrev pub data_group : Reading (TransparentVec Data)
-data_group = seen_reading (run_reading 0x75 data_batch)
-
-abbrev pub of_data_batch : BodyLaws data_group (itself data_group)
-of_data_batch = itself_laws data_group (seen_bound _ (group_bound 0x75 data_type))
+abbrev pub of_data_batch : Made (TransparentVec Data) (TransparentVec Data)
+of_data_batch = itself (seen_reading (run_reading 0x75 data_batch)) (seen_bound _ (group_bound 0x75 data_type))
 
 -- Messages with such a body: in any order of their sections, and strictly in the standard's.
-abbrev pub in_any_order : {S B : Type 0} {group : Reading S} {making : Making S B} → BodyLaws group making → Reading (Message B)
-in_any_order laws = walk_reading (message_walk Any (message_of laws))
+abbrev pub in_any_order : {S B : Type 0} → Made S B → Reading (Message B)
+in_any_order made = walk_reading (message_walk Any (message_of made))
 
-abbrev pub strictly : {S B : Type 0} {group : Reading S} {making : Making S B} → BodyLaws group making → Reading (Strict B)
-strictly laws = reading_via (walk_reading (message_walk Written (message_of laws))) message_in
+abbrev pub strictly : {S B : Type 0} → Made S B → Reading (Strict B)
+strictly made = reading_via (walk_reading (message_walk Written (message_of made))) message_in
 
 -- The terms that they are written as.
 abbrev pub message_terms : {B : Type 0} → Writing B → Message B → List Term

@@ -11,7 +11,7 @@ use Rattle.amqp_sections.specs.declared.amqp_sequence.AmqpSequence.{AmqpSequence
 use Rattle.amqp_sections.specs.declared.amqp_value.AmqpValue.{AmqpValue}
 use Rattle.amqp_sections.specs.declared.data.Data.{Data as DataSection}
 use Rattle.amqp_bodies.specs.declared.body.Body.TheVariants.{Value, Data, Sequence, Empty}
-use Rattle.amqp_bodies.specs.Bodies.{Making}
+use Rattle.amqp_bodies.specs.Bodies.{Made}
 use Rattle.amqp_bodies.specs.SpelledBodies.{IsBody, IsThere}
 use Rattle.amqp_message_spellings.specs.Messages.{IsMessage, IsStrictMessage, kinds}
 use Rattle.amqp_section_slices.specs.declared.section_kind.SectionKind.{SectionKind}
@@ -100,8 +100,8 @@ next_section b c cs more named bytes rest (first, others, e, (ahead, (t, spelled
       are = are;
     }
 
-module _ {S B : Type 0} (making : Making S B) (group : Spells S) (of_sections : AreOfSections group) where
-  all_kinds : AllOfSections (kinds making group)
+module _ {S B : Type 0} (made : Made S B) (group : Spells S) (of_sections : AreOfSections group) where
+  all_kinds : AllOfSections (kinds made group)
   all_kinds = (
     term_of_sections _,
     (
@@ -119,8 +119,8 @@ module _ {S B : Type 0} (making : Making S B) (group : Spells S) (of_sections : 
     ),
   )
 
-  pub message_sections : (b : List ℕ) (v : _) (more : List ℕ) → IsMessage making group b v more → HasSections b more
-  message_sections b v more h = groups_sections (kinds making group) all_kinds h.groups b more h.are
+  pub message_sections : (b : List ℕ) (v : _) (more : List ℕ) → IsMessage made group b v more → HasSections b more
+  message_sections b v more h = groups_sections (kinds made group) all_kinds h.groups b more h.are
 
-  pub strict_sections : (b : List ℕ) (v : _) (more : List ℕ) → IsStrictMessage making group b v more → HasSections b more
-  strict_sections b v more h = groups_sections (kinds making group) all_kinds h.groups b more h.are
+  pub strict_sections : (b : List ℕ) (v : _) (more : List ℕ) → IsStrictMessage made group b v more → HasSections b more
+  strict_sections b v more h = groups_sections (kinds made group) all_kinds h.groups b more h.are

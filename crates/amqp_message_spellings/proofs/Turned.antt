@@ -6,7 +6,7 @@ use Rattle.amqp_codec.specs.Composite.{composite}
 use Rattle.amqp_codec.specs.Reading.{Reading}
 use Rattle.amqp_message_headers.specs.Tables.{header, properties}
 use Rattle.amqp_batches.specs.laws.Resuming.{IsUnlimited, IsReadHere}
-use Rattle.amqp_bodies.specs.Bodies.{Making, BodyLaws}
+use Rattle.amqp_bodies.specs.Bodies.{Made}
 use Rattle.amqp_messages.specs.declared.message.Message.{Message}
 use Rattle.amqp_messages.specs.declared.message.Groups.{Groups}
 use Rattle.amqp_messages.specs.Groups.{Shape}
@@ -30,13 +30,12 @@ takes_one c l st v b more free here comes s = record {
   here = takes l st v b more free here s;
 }
 
-module _ {S B : Type 0} {reading : Reading S} {making : Making S B} (laws : BodyLaws reading making) {body : Spells S}
-    (l : IsReadAs reading body) where
+module _ {S B : Type 0} (made : Made S B) {body : Spells S} (l : IsReadAs made.group body) where
   abbrev pub ks : Kinds
-  ks = kinds making body
+  ks = kinds made body
 
   abbrev pub shape : Shape (Groups S) (Message B)
-  shape = message_of laws
+  shape = message_of made
 
   abbrev pub fields : Groups S → Fields ks
   fields m =
@@ -123,7 +122,7 @@ module _ {S B : Type 0} {reading : Reading S} {making : Making S B} (laws : Body
     pub stands : orders.behind code ≡ behind ks group
 
   body_reads : (c : ℕ) → (st : State) (v : S) (b more : List ℕ) → IsUnlimited st → st.rest ≡ b ++ more
-      → IsSectionAhead (b ++ more) c → body b v more → (d : ℕ) → c ≡ d → TakesOne d reading st v more
+      → IsSectionAhead (b ++ more) c → body b v more → (d : ℕ) → c ≡ d → TakesOne d made.group st v more
   body_reads c st v b more free here a s d e = record {
     ahead = subst (λ z. IsSectionAhead z d) (sym here) (subst (IsSectionAhead (b ++ more)) e a);
     here = takes l st v b more free here s;

@@ -5,7 +5,7 @@ use Rattle.amqp_wire.specs.declared.error.Error.TheVariants.{EmptyBody, Misplace
 use Rattle.amqp_lookahead.specs.Sections.{IsSectionAhead}
 use Rattle.amqp_batches.specs.Spellings.{Spells, Are}
 use Rattle.amqp_batches.specs.SpellingFaults.{Faults, IsNoTerm}
-use Rattle.amqp_bodies.specs.Bodies.{Making}
+use Rattle.amqp_bodies.specs.Bodies.{Made}
 use Rattle.amqp_messages.specs.Orders as orders
 use Rattle.amqp_message_spellings.specs.Kinds.{Group, IsGroup, is_in, nothing, put_all, behind, Fall}
 use Rattle.amqp_message_spellings.specs.Messages.{kinds, body_in}
@@ -21,24 +21,24 @@ IsGroupFault body c at e = ((is_of_body c ≡ true) × body at e) ⊎ ((is_of_bo
 abbrev pub IsNoSection : Faults
 IsNoSection at e = (at ≡ [] → ⊥) × ((c : ℕ) → IsSectionAhead at c → ⊥) × IsNoTerm at e
 
-module _ {S B : Type 0} (making : Making S B) (group : Spells S) where
+module _ {S B : Type 0} (made : Made S B) (group : Spells S) where
   -- There is no body, and nothing takes its place.
-  abbrev pub HasNoBody : List (Group (kinds making group)) → Error → Type 0
+  abbrev pub HasNoBody : List (Group (kinds made group)) → Error → Type 0
   HasNoBody groups e =
-      (body_in making group (put_all (kinds making group) groups (nothing (kinds making group))) ≡ None) × (e ≡ EmptyBody)
-      × ((v : B) → making.empty v → ⊥)
+      (body_in made group (put_all (kinds made group) groups (nothing (kinds made group))) ≡ None) × (e ≡ EmptyBody)
+      × ((v : B) → made.empty v → ⊥)
 
   -- Of these bytes, behind some whole groups, this is so.
-  pub record IsBehindGroups (why : List (Group (kinds making group)) → List ℕ → Type 0) (input : List ℕ) : Type 0 where
+  pub record IsBehindGroups (why : List (Group (kinds made group)) → List ℕ → Type 0) (input : List ℕ) : Type 0 where
     pub bytes : List ℕ
-    pub groups : List (Group (kinds making group))
+    pub groups : List (Group (kinds made group))
     pub at : List ℕ
     pub split : input ≡ bytes ++ at
-    pub are : Are (IsGroup (kinds making group)) bytes groups at
+    pub are : Are (IsGroup (kinds made group)) bytes groups at
     pub is : why groups at
 
   -- Behind at most six groups the next one has the fault, or there is none; or of all of them no message is made.
-  abbrev pub HasFault : Faults → Error → List (Group (kinds making group)) → List ℕ → Type 0
+  abbrev pub HasFault : Faults → Error → List (Group (kinds made group)) → List ℕ → Type 0
   HasFault body e groups at =
       ((length groups < 7) × (((c : ℕ) × IsSectionAhead at c × IsGroupFault body c at e) ⊎ IsNoSection at e))
       ⊎ ((length groups ≤ 7) × ((length groups ≡ 7) ⊎ (at ≡ [])) × HasNoBody groups e)
@@ -47,14 +47,14 @@ module _ {S B : Type 0} (making : Making S B) (group : Spells S) where
   IsMessageFault body input e = IsBehindGroups (HasFault body e) input
 
   -- How many kinds may still come behind these groups.
-  abbrev pub left_behind : ℕ → List (Group (kinds making group)) → ℕ
+  abbrev pub left_behind : ℕ → List (Group (kinds made group)) → ℕ
   left_behind n [] = n
-  left_behind n (g ∷ gs) = left_behind (behind (kinds making group) g) gs
+  left_behind n (g ∷ gs) = left_behind (behind (kinds made group) g) gs
 
   -- The same in the standard's order: the section that comes next may also be out of its place.
-  abbrev pub HasStrictFault : Faults → Error → List (Group (kinds making group)) → List ℕ → Type 0
+  abbrev pub HasStrictFault : Faults → Error → List (Group (kinds made group)) → List ℕ → Type 0
   HasStrictFault body e groups at =
-      Fall (kinds making group) 7 groups × ((((c : ℕ) × IsSectionAhead at c
+      Fall (kinds made group) 7 groups × ((((c : ℕ) × IsSectionAhead at c
       × (((orders.behind c < left_behind 7 groups) × IsGroupFault body c at e)
       ⊎ ((left_behind 7 groups ≤ orders.behind c) × (e ≡ Misplaced))))
       ⊎ IsNoSection at e) ⊎ ((at ≡ []) × HasNoBody groups e))

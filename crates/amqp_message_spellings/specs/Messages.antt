@@ -13,7 +13,7 @@ use Rattle.amqp_map_sections.specs.declared.delivery_annotations.DeliveryAnnotat
 use Rattle.amqp_map_sections.specs.declared.footer.Footer.{Footer}
 use Rattle.amqp_map_sections.specs.declared.message_annotations.MessageAnnotations.{MessageAnnotations}
 use Rattle.amqp_message_headers.specs.Tables.{header, properties}
-use Rattle.amqp_bodies.specs.Bodies.{Making}
+use Rattle.amqp_bodies.specs.Bodies.{Made}
 use Rattle.amqp_messages.specs.declared.message.Message.{Message}
 use Rattle.amqp_messages.specs.declared.strict.Strict.{Strict}
 use Rattle.amqp_messages.specs.MessageTypes.{message_in}
@@ -51,14 +51,14 @@ seven body =
     (kind body
     (kind (section 0x78 footer) none))))))
 
-module _ {S B : Type 0} (making : Making S B) (group : Spells S) where
+module _ {S B : Type 0} (made : Made S B) (group : Spells S) where
   abbrev pub kinds : Kinds
   kinds = seven (body_kind group)
 
   -- The body is made of the last group of its kind, or takes its place if there is none.
   abbrev pub IsBodyOf : Option S → B → Type 0
-  IsBodyOf None v = making.empty v
-  IsBodyOf (Some s) v = making.of_body s v
+  IsBodyOf None v = made.empty v
+  IsBodyOf (Some s) v = made.of_body s v
 
   -- The fields of a message, with this group as its body.
   abbrev pub fields_of : Option S → Message B → Fields kinds

@@ -71,19 +71,19 @@ where
 /// Its body is made of the last group of a body's sections, or takes its place. An input is refused for what begins after some whole groups,
 /// or since they have no body. The law is for every body, also one of a type of the caller.
 pub fn messages_are_spelled<B: FromBody>()
-    ensures any { IsReadExactly ⟦<Message<B> as Deserialize>⟧.reading (IsMessage B.making B.Body.spells) }
-    ensures refused { IsRefusedFor ⟦<Message<B> as Deserialize>⟧.reading (IsMessageFault B.making B.Body.spells B.Body.faults) }
-    ensures strict { IsReadExactly ⟦<Strict<B> as Deserialize>⟧.reading (IsStrictMessage B.making B.Body.spells) }
-    ensures strictly_refused { IsRefusedFor ⟦<Strict<B> as Deserialize>⟧.reading (IsStrictFault B.making B.Body.spells B.Body.faults) }
+    ensures any { IsReadExactly ⟦<Message<B> as Deserialize>⟧.reading (IsMessage B.made B.Body.spells) }
+    ensures refused { IsRefusedFor ⟦<Message<B> as Deserialize>⟧.reading (IsMessageFault B.made B.Body.spells B.Body.faults) }
+    ensures strict { IsReadExactly ⟦<Strict<B> as Deserialize>⟧.reading (IsStrictMessage B.made B.Body.spells) }
+    ensures strictly_refused { IsRefusedFor ⟦<Strict<B> as Deserialize>⟧.reading (IsStrictFault B.made B.Body.spells B.Body.faults) }
 {}
 
 /// The bytes of a message whose body is of any kind are its sections, one after another, each one whole term. What
 /// `amqp_section_slices::split_section` returns of them is the first.
 pub fn messages_are_sections<T: DeserializeTerm>()
-    ensures any { (b : List ℕ) (v : _) (more : List ℕ) → IsMessage ⟦<Body<T> as FromBody>⟧.making
+    ensures any { (b : List ℕ) (v : _) (more : List ℕ) → IsMessage ⟦<Body<T> as FromBody>⟧.made
         ⟦<Body<T> as DeserializableBody>⟧.spells b v more
         → HasSections b more }
-    ensures strict { (b : List ℕ) (v : _) (more : List ℕ) → IsStrictMessage ⟦<Body<T> as FromBody>⟧.making
+    ensures strict { (b : List ℕ) (v : _) (more : List ℕ) → IsStrictMessage ⟦<Body<T> as FromBody>⟧.made
         ⟦<Body<T> as DeserializableBody>⟧.spells b v more
         → HasSections b more }
     ensures next { (b : List ℕ) (c : ℕ) (cs more : List ℕ) (kind : SectionKind) (bytes rest : List ℕ) → AreSections b (c ∷ cs) more

@@ -5,24 +5,24 @@ use Rattle.amqp_model.specs.Term.{Term}
 use Rattle.amqp_codec.specs.Reading.{Reading, BeginsWithin}
 use Rattle.amqp_read_write.specs.Rewritten.{IsRewrittenWithin, IsReadAgain, IsOneText, IsOfNoOther}
 use Rattle.amqp_batches.specs.WalkReading.{walk_reading, reading_via}
-use Rattle.amqp_bodies.specs.Bodies.{Making, BodyLaws}
+use Rattle.amqp_bodies.specs.Bodies.{Made}
 use Rattle.amqp_messages.specs.declared.order.Order.TheVariants.{Any, Written}
 use Rattle.amqp_messages.specs.declared.strict.Strict.{Strict}
 use Rattle.amqp_messages.specs.MessageWalk.{message_walk}
 use Rattle.amqp_messages.specs.MessageTypes.{message_of, message_in}
 use Rattle.amqp_messages.proofs.OrderLaws.{strict_begins, strict_whole}
 
-module _ {S B : Type 0} {group : Reading S} {making : Making S B} (laws : BodyLaws group making) where
+module _ {S B : Type 0} (made : Made S B) where
   abbrev strict : Reading (Strict B)
-  strict = reading_via (walk_reading (message_walk Written (message_of laws))) message_in
+  strict = reading_via (walk_reading (message_walk Written (message_of made))) message_in
 
   pub strict_message : (limits : Limits) (input : List ℕ) (v : Strict B) (n : ℕ) → BeginsWithin limits strict input v n
-      → BeginsWithin limits (walk_reading (message_walk Any (message_of laws))) input (message_in v) n × (n ≡ length input)
+      → BeginsWithin limits (walk_reading (message_walk Any (message_of made))) input (message_in v) n × (n ≡ length input)
   strict_message limits input v n h =
-      let k : BeginsWithin limits (walk_reading (message_walk Written (message_of laws))) input (message_in v) n =
+      let k : BeginsWithin limits (walk_reading (message_walk Written (message_of made))) input (message_in v) n =
       record { after = h.after; read = h.read; left = h.left } in (
-        strict_begins (message_of laws) limits input (message_in v) n k,
-        strict_whole (message_of laws) limits input (message_in v) n k,
+        strict_begins (message_of made) limits input (message_in v) n k,
+        strict_whole (message_of made) limits input (message_in v) n k,
       )
 
   module _ (limits : Limits) {canons : Strict B → List Term} {input text : List ℕ} {n : ℕ}

@@ -18,8 +18,7 @@ use Rattle.amqp_map_sections.specs.SimpleMaps.{simple_map_type}
 use Rattle.amqp_message_headers.specs.Tables.{header, properties}
 use Rattle.amqp_batches.specs.WalkReading.{walk_reading}
 use Rattle.amqp_batches.specs.Sections.{IsSectionCode}
-use Rattle.amqp_codec.specs.Reading.{Reading}
-use Rattle.amqp_bodies.specs.Bodies.{Making, BodyLaws}
+use Rattle.amqp_bodies.specs.Bodies.{Made}
 use Rattle.amqp_bodies.specs.BodyTexts.{IsBodyText}
 use Rattle.amqp_messages.specs.declared.order.Order.{Order}
 use Rattle.amqp_messages.specs.declared.message.Message.{Message}
@@ -135,11 +134,10 @@ written_by wa ws writing =
 
 -- A message in this order is written in the standard's, and read again so.
 pub message_is_rewritten : {wa : Writing (List (OwnedKey × Value))} {ws : Writing (List (String Global × SimpleValue))}
-    → Agreement annotations_type wa → Agreement simple_map_type ws → {B : Type 0} {group : Reading B} {making : Making B B}
-    {laws : BodyLaws group making} {writing : Writing B}
+    → Agreement annotations_type wa → Agreement simple_map_type ws → {B : Type 0} {made : Made B B} {writing : Writing B}
     {follows : List ℕ → Type 0} {again : B → B} {kept lasts : B → Type 0} (o : Order)
-    → IsBodyText laws writing follows again kept lasts
-    → Rewriting (walk_reading (message_walk o (message_of laws))) (written_by wa ws writing).canons (written_by wa ws writing).is_value
+    → IsBodyText made writing follows again kept lasts
+    → Rewriting (walk_reading (message_walk o (message_of made))) (written_by wa ws writing).canons (written_by wa ws writing).is_value
     (λ rest. rest ≡ []) (message_again again) (λ v. kept v.body) (λ v. lasts v.body) false
 message_is_rewritten a s o body =
     message_rewrites header_laws (delivery_annotations_laws a) (message_annotations_laws a) properties_laws (application_properties_laws s)

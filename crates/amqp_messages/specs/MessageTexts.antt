@@ -18,8 +18,7 @@ use Rattle.amqp_batches.specs.laws.Resuming.{IsRead}
 use Rattle.amqp_batches.specs.Sections.{IsSection}
 use Rattle.amqp_batches.specs.SectionGroups.{section_text}
 use Rattle.amqp_batches.specs.GroupTexts.{GroupText, IsSound, read_sound}
-use Rattle.amqp_codec.specs.Reading.{Reading}
-use Rattle.amqp_bodies.specs.Bodies.{Making, BodyLaws}
+use Rattle.amqp_bodies.specs.Bodies.{Made}
 use Rattle.amqp_bodies.specs.BodyRewriting.{IsBodyCode}
 use Rattle.amqp_bodies.specs.BodyTexts.{IsBodyText, body_group}
 use Rattle.amqp_messages.specs.declared.order.Order.{Order}
@@ -59,13 +58,13 @@ module _ {B : Type 0}
     {up : TermType Properties} {wp : Writing Properties} (sp : SectionLaws 0x73 up wp)
     {ua : TermType ApplicationProperties} {wa : Writing ApplicationProperties} (sa : SectionLaws 0x74 ua wa)
     {uf : TermType Footer} {wf : Writing Footer} (sf : SectionLaws 0x78 uf wf)
-    {group : Reading B} {making : Making B B} {laws : BodyLaws group making} {wb : Writing B} {fb : List ℕ → Type 0} {ab : B → B} {kb lb : B → Type 0} (body : IsBodyText laws wb fb ab kb lb)
+    {made : Made B B} {wb : Writing B} {fb : List ℕ → Type 0} {ab : B → B} {kb lb : B → Type 0} (body : IsBodyText made wb fb ab kb lb)
   where
     abbrev readings : Readings B
-    readings = readings_of uh ud um up ua uf group
+    readings = readings_of uh ud um up ua uf made.group
 
     abbrev shape : Shape (Groups B) (Message B)
-    shape = shape_of uh ud um up ua uf laws
+    shape = shape_of uh ud um up ua uf made
 
     abbrev is_alike : Groups B → Groups B → Type 0
     is_alike = messages.AreAlike readings
@@ -148,7 +147,7 @@ module _ {B : Type 0}
           (record { group = g; read = r; is = refl });
     }
 
-    body_fills : (c : ℕ) → IsBodyCode c → (st : _) (m : Groups B) (b : _) (g : B) → group.reads st g b
+    body_fills : (c : ℕ) → IsBodyCode c → (st : _) (m : Groups B) (b : _) (g : B) → made.group.reads st g b
         → GroupRead (kinds c) st m (record m { body = Some g }) b
     body_fills c (inl e) st m b g r =
         subst (λ k. GroupRead (kinds k) st m (record m { body = Some g }) b) (sym e) (record { group = g; read = r; is = refl })
@@ -165,7 +164,7 @@ module _ {B : Type 0}
     abbrev body_entry : Entry kinds
     body_entry = record {
       Group = B;
-      reading = group;
+      reading = made.group;
       is_code = IsBodyCode;
       rank = 1;
       get = λ m. m.body;
@@ -244,9 +243,9 @@ module _ {B : Type 0}
         (λ g m r a. (a.0, (a.1.0, (a.1.1.0, (a.1.1.1.0, (a.1.1.1.1.0, (read_sound (body_group body.group) g r, a.1.1.1.1.1.1))))))))))))
 
     kinds_bound : AreBoundByLimits shape
-    kinds_bound = shape_bound uh ud um up ua uf laws
+    kinds_bound = shape_bound uh ud um up ua uf made
 
-    body_sound : (a : Option B) (v : B) → messages.IsBodyOf readings making laws a v
+    body_sound : (a : Option B) (v : B) → messages.IsBodyOf readings made.empty made.same made.count made.of_body made.laws a v
         → IfSome a (IsSound (body_group body.group)) → IsSound (body_group body.group) v
     body_sound None v h k = body.empty_sound v h
     body_sound (Some s) v h k = subst (IsSound (body_group body.group)) (sym (body.to_body s v h)) k

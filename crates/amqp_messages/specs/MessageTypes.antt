@@ -20,7 +20,7 @@ use Rattle.amqp_map_sections.specs.MapSections.{message_annotations_naming, in_a
 use Rattle.amqp_map_sections.specs.MapSections.{in_footer, footer_naming}
 use Rattle.amqp_map_sections.specs.SimpleMaps.{simple_map_type}
 use Rattle.amqp_message_headers.specs.Tables.{header, properties}
-use Rattle.amqp_bodies.specs.Bodies.{Making, BodyLaws}
+use Rattle.amqp_bodies.specs.Bodies.{Made}
 use Rattle.amqp_messages.specs.declared.message.Message.{Message}
 use Rattle.amqp_messages.specs.declared.strict.Strict.{Strict}
 use Rattle.amqp_messages.specs.declared.message.Groups.{Groups}
@@ -51,17 +51,17 @@ AnswersGroup k m x st (Ok none) b = GroupRead k st m x b
 AnswersGroup k m x st (Err e) b = RefusesAt true k.reading.reads k.reading.fault st e b
 
 abbrev pub shape_of : {S B : Type 0} → TermType Header → TermType DeliveryAnnotations → TermType MessageAnnotations → TermType Properties
-    → TermType ApplicationProperties → TermType Footer → {group : Reading S} {making : Making S B} → BodyLaws group making
-    → Shape (Groups S) (Message B)
-shape_of h d m p a f {group} {making} laws = message_shape (readings_of h d m p a f group) making laws
+    → TermType ApplicationProperties → TermType Footer → Made S B → Shape (Groups S) (Message B)
+shape_of h d m p a f made =
+    message_shape (readings_of h d m p a f made.group) made.empty made.same made.count made.of_body made.laws
 
 -- How a message is read, whose body is made so (Part 3, section 3.2).
-abbrev pub message_of : {S B : Type 0} {group : Reading S} {making : Making S B} → BodyLaws group making → Shape (Groups S) (Message B)
-message_of laws =
+abbrev pub message_of : {S B : Type 0} → Made S B → Shape (Groups S) (Message B)
+message_of made =
     shape_of (composite header) (section_of in_delivery_annotations delivery_annotations_naming annotations_type)
     (section_of in_message_annotations message_annotations_naming annotations_type) (composite properties)
     (section_of in_application_properties application_properties_naming simple_map_type)
-    (section_of in_footer footer_naming annotations_type) laws
+    (section_of in_footer footer_naming annotations_type) made
 
 abbrev pub message_in : {B : Type 0} → Strict B → Message B
 message_in v = v.0

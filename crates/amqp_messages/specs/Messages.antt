@@ -12,7 +12,7 @@ use Rattle.amqp_map_sections.specs.declared.footer.Footer.{Footer}
 use Rattle.amqp_map_sections.specs.declared.message_annotations.MessageAnnotations.{MessageAnnotations}
 use Rattle.amqp_message_headers.specs.declared.header.Header.{Header}
 use Rattle.amqp_message_headers.specs.declared.properties.Properties.{Properties}
-use Rattle.amqp_bodies.specs.Bodies.{Making, BodyLaws}
+use Rattle.amqp_bodies.specs.Bodies.{BodyLaws}
 use Rattle.amqp_messages.specs.declared.message.Message.{Message}
 use Rattle.amqp_messages.specs.declared.message.Groups.{Groups}
 use Rattle.amqp_messages.specs.Groups.{Kind, Shape}
@@ -149,11 +149,12 @@ module _ {S : Type 0} (r : Readings S) where
     option_sym r.footer.same r.footer.same_sym m.footer n.footer l.6,
   )
 
-  module _ {B : Type 0} (making : Making S B) (laws : BodyLaws r.body making) where
+  module _ {B : Type 0} (empty : B → Type 0) (same : B → B → Type 0) (count : B → ℕ) (of_body : S → B → Type 0)
+      (laws : BodyLaws r.body empty same count of_body) where
     -- The body is made of the group, or takes the place of one that isn't there.
     abbrev pub IsBodyOf : Option S → B → Type 0
-    IsBodyOf None v = making.empty v
-    IsBodyOf (Some s) v = making.of_body s v
+    IsBodyOf None v = empty v
+    IsBodyOf (Some s) v = of_body s v
 
     -- The message has the last group of each kind.
     abbrev pub IsMadeOf : Groups S → Message B → Type 0
@@ -164,7 +165,7 @@ module _ {S : Type 0} (r : Readings S) where
 
     -- There is no body, and no value takes its place.
     abbrev pub IsUnmade : Groups S → Error → Type 0
-    IsUnmade m e = (m.body ≡ None) × (e ≡ EmptyBody) × ((v : B) → making.empty v → ⊥)
+    IsUnmade m e = (m.body ≡ None) × (e ≡ EmptyBody) × ((v : B) → empty v → ⊥)
 
     abbrev pub SameMessage : Message B → Message B → Type 0
     SameMessage v w =
@@ -173,12 +174,12 @@ module _ {S : Type 0} (r : Readings S) where
         × SameOption r.message_annotations.same v.message_annotations w.message_annotations
         × SameOption r.properties.same v.properties w.properties
         × SameOption r.application_properties.same v.application_properties w.application_properties
-        × making.same v.body w.body
+        × same v.body w.body
         × SameOption r.footer.same v.footer w.footer
 
     abbrev pub count_message : Message B → ℕ
     count_message v =
-        count_others v.header v.delivery_annotations v.message_annotations v.properties v.application_properties v.footer + making.count v.body
+        count_others v.header v.delivery_annotations v.message_annotations v.properties v.application_properties v.footer + count v.body
 
     pub same_sym : (v w : Message B) → SameMessage v w → SameMessage w v
     same_sym v w h = (
@@ -205,13 +206,13 @@ module _ {S : Type 0} (r : Readings S) where
       option_trans r.footer.same r.footer.same_trans v.footer w.footer x.footer h.6 k.6,
     )
 
-    one_body : (a b : Option S) (v w : B) → SameOption r.body.same a b → IsBodyOf a v → IsBodyOf b w → making.same v w
+    one_body : (a b : Option S) (v w : B) → SameOption r.body.same a b → IsBodyOf a v → IsBodyOf b w → same v w
     one_body None None v w h e f = laws.one_empty v w e f
     one_body None (Some t) v w h e f = absurd h
     one_body (Some s) None v w h e f = absurd h
     one_body (Some s) (Some t) v w h e f = laws.one s t v w h e f
 
-    body_counted : (a : Option S) (v : B) → IsBodyOf a v → making.count v ≤ count_in r.body.count a
+    body_counted : (a : Option S) (v : B) → IsBodyOf a v → count v ≤ count_in r.body.count a
     body_counted None v e = let z = laws.none_counted v e in omega (arith, z)
     body_counted (Some s) v e = laws.counted s v e
 

@@ -68,10 +68,10 @@ pub trait FromMessage<B>: Sized {
 }
 
 impl<T: FromBody<Body = B>, B> FromMessage<B> for T {
-    ghost of_body = { T.making.of_body };
+    ghost of_body = { T.made.of_body };
 
     fn from_message(message: Message<B>, alloc: Global) -> Result<T, Error>
-        ensures value { IfOk result (λ v. T.making.of_body message.body v) }
+        ensures value { IfOk result (λ v. T.made.of_body message.body v) }
         ensures memory { IfErr result (λ e. e ≡ Memory) }
     {
         T::from_body(message.body, alloc)

@@ -14,7 +14,7 @@ ghost use Rattle.amqp_messages.specs.declared.order.Order.TheVariants.{Any};
 use crate::message::{Groups, Message};
 use crate::next::next_section;
 use crate::order::Order;
-use amqp_bodies::FromBody;
+use amqp_bodies::{DeserializableBody, FromBody};
 use amqp_codec::{Deserialize, DeserializeTerm};
 use amqp_decoder::Decoder;
 use amqp_map_sections::{ApplicationProperties, DeliveryAnnotations, Footer, MessageAnnotations};
@@ -48,7 +48,7 @@ fn put_body<B: FromBody, R: ByteSource>(
     decoder: &mut Decoder<R>,
     alloc: Global,
 ) -> Result<(), Error>
-    ensures read { Tells R.remaining → AnswersPut B.Body.group place.new decoder.old result decoder.new }
+    ensures read { Tells R.remaining → AnswersPut B.made.group place.new decoder.old result decoder.new }
     ensures tries { Tries true decoder.old result decoder.new }
 {
     match B::Body::read_group(decoder, alloc) {
@@ -83,7 +83,7 @@ impl<S: Drop> Groups<S> {
         decoder: &mut Decoder<R>,
         alloc: Global,
     ) -> Result<(), Error>
-        ensures read { Tells R.remaining → AnswersGroup ((message_of B.laws).kind_of code) self.old self.new decoder.old result decoder.new }
+        ensures read { Tells R.remaining → AnswersGroup ((message_of B.made).kind_of code) self.old self.new decoder.old result decoder.new }
         ensures tries { Tries true decoder.old result decoder.new }
     {
         match code {
@@ -111,8 +111,8 @@ impl<S: Drop> Groups<S> {
 
     // The message, or `EmptyBody` if there is no body and no value takes its place.
     fn finish<B: FromBody<Body = S>>(self, alloc: Global) -> Result<Message<B>, Error>
-        ensures made { IfOk result (λ v. (message_of B.laws).finish self v) }
-        ensures refused { IfErr result (λ e. (e ≡ Memory) ⊎ (message_of B.laws).unfinished self e) }
+        ensures made { IfOk result (λ v. (message_of B.made).finish self v) }
+        ensures refused { IfErr result (λ e. (e ≡ Memory) ⊎ (message_of B.made).unfinished self e) }
     {
         let Groups {
             header,
@@ -145,8 +145,8 @@ pub fn read_message<B: FromBody, R: ByteSource>(
     decoder: &mut Decoder<R>,
     alloc: Global,
 ) -> Result<Message<B>, Error>
-    ensures read { Tells R.remaining → AnswersAt true (Walked (message_walk order (message_of B.laws)))
-        (WalkFault (message_walk order (message_of B.laws))) decoder.old result decoder.new }
+    ensures read { Tells R.remaining → AnswersAt true (Walked (message_walk order (message_of B.made)))
+        (WalkFault (message_walk order (message_of B.made))) decoder.old result decoder.new }
     ensures tries { Tries true decoder.old result decoder.new }
 {
     let mut groups: Groups<B::Body> = Groups::new();
@@ -164,7 +164,7 @@ pub fn read_message<B: FromBody, R: ByteSource>(
 /// The sections are in any order, and each kind any number of times: the last of each kind counts. What follows the seventh group isn't
 /// read.
 impl<B: FromBody> Deserialize for Message<B> {
-    ghost reading = { walk_reading (message_walk Any (message_of B.laws)) };
+    ghost reading = { walk_reading (message_walk Any (message_of B.made)) };
 
     fn is_one_term() -> bool {
         false

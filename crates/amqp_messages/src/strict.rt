@@ -33,7 +33,7 @@ pub struct Strict<B>(pub Message<B>);
 
 /// The sections are in the standard's order, each kind at most once, to the end of the input. Any other section is `Misplaced`.
 impl<B: FromBody> Deserialize for Strict<B> {
-    ghost reading = { reading_via (walk_reading (message_walk Written (message_of B.laws))) message_in };
+    ghost reading = { reading_via (walk_reading (message_walk Written (message_of B.made))) message_in };
 
     fn is_one_term() -> bool {
         false

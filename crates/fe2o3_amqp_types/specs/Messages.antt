@@ -13,9 +13,9 @@ pub use Rattle.amqp_batches.specs.Sections.{IsSection}
 pub use Rattle.amqp_batches.specs.Bounds.{AreAllowed, IsBoundByLimits}
 pub use Rattle.amqp_batches.specs.Transparent.{vec_in}
 pub use Rattle.amqp_batches.specs.Batches.{sections_in, batch_reading, batch_writing, batch_again}
-pub use Rattle.amqp_bodies.specs.Bodies.{Empties, Making, BodyLaws, no_value, section_making, itself}
+pub use Rattle.amqp_bodies.specs.Bodies.{Empties, Made, no_value, section_made, itself}
 pub use Rattle.amqp_bodies.specs.BodyTexts.{IsBodyText}
-pub use Rattle.amqp_bodies.specs.BodySections.{IsSome, IsReadAsBody, empty_body, body_making, value_making, plain_making}
+pub use Rattle.amqp_bodies.specs.BodySections.{IsSome, IsReadAsBody, empty_body, body_made, value_made, plain_made}
 pub use Rattle.amqp_bodies.specs.Members.{body_value, body_data, body_sequences, data_left, sequences_left, data_lent, sequences_lent}
 pub use Rattle.amqp_bodies.specs.BodyRewriting.{NoBodyFollows}
 pub use Rattle.amqp_bodies.specs.EmptyBodies.{HasNoEmptyBatch}

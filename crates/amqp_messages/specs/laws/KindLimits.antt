@@ -9,8 +9,7 @@ use Rattle.amqp_message_headers.specs.declared.header.Header.{Header}
 use Rattle.amqp_message_headers.specs.declared.properties.Properties.{Properties}
 use Rattle.amqp_batches.specs.Bounds.{IsBoundByLimits}
 use Rattle.amqp_batches.specs.laws.Bound.{term_bound}
-use Rattle.amqp_codec.specs.Reading.{Reading}
-use Rattle.amqp_bodies.specs.Bodies.{Making, BodyLaws}
+use Rattle.amqp_bodies.specs.Bodies.{Made}
 use Rattle.amqp_messages.specs.declared.message.Groups.{Groups}
 use Rattle.amqp_messages.specs.Groups.{Kind}
 use Rattle.amqp_messages.specs.Messages as messages
@@ -24,19 +23,18 @@ pick_both P true x y h k = h
 pick_both P false x y h k = k
 
 module _ {S B : Type 0} (uh : TermType Header) (ud : TermType DeliveryAnnotations) (um : TermType MessageAnnotations)
-    (up : TermType Properties) (ua : TermType ApplicationProperties) (uf : TermType Footer) {group : Reading S} {making : Making S B}
-    (laws : BodyLaws group making) where
+    (up : TermType Properties) (ua : TermType ApplicationProperties) (uf : TermType Footer) (made : Made S B) where
   abbrev r : Readings S
-  r = readings_of uh ud um up ua uf group
+  r = readings_of uh ud um up ua uf made.group
 
   abbrev IsKindBound : Kind (Groups S) (messages.AreAlike r) (weight r) → Type 0
   IsKindBound k = IsBoundByLimits k.reading
 
-  pub shape_bound : AreBoundByLimits (shape_of uh ud um up ua uf laws)
+  pub shape_bound : AreBoundByLimits (shape_of uh ud um up ua uf made)
   shape_bound c =
       pick_both IsKindBound (eqb c 0x70) _ _ (term_bound uh)
       (pick_both IsKindBound (eqb c 0x71) _ _ (term_bound ud)
       (pick_both IsKindBound (eqb c 0x72) _ _ (term_bound um)
       (pick_both IsKindBound (eqb c 0x73) _ _ (term_bound up)
       (pick_both IsKindBound (eqb c 0x74) _ _ (term_bound ua)
-      (pick_both IsKindBound (eqb c 0x78) _ _ (term_bound uf) laws.bound)))))
+      (pick_both IsKindBound (eqb c 0x78) _ _ (term_bound uf) made.laws.bound)))))

@@ -11,8 +11,7 @@ use Rattle.amqp_annotations.specs.AnnotationsType.{annotations_type}
 use Rattle.amqp_map_sections.specs.SimpleMaps.{simple_map_type}
 use Rattle.amqp_batches.specs.WalkReading.{walk_reading, reading_via}
 use Rattle.amqp_batches.specs.laws.ViaRewriting.{via_rewrites}
-use Rattle.amqp_codec.specs.Reading.{Reading}
-use Rattle.amqp_bodies.specs.Bodies.{Making, BodyLaws}
+use Rattle.amqp_bodies.specs.Bodies.{Made}
 use Rattle.amqp_bodies.specs.BodyTexts.{IsBodyText}
 use Rattle.amqp_messages.specs.declared.order.Order.TheVariants.{Written}
 use Rattle.amqp_messages.specs.declared.strict.Strict.{Strict}
@@ -21,10 +20,9 @@ use Rattle.amqp_messages.specs.MessageTypes.{message_of, message_in, as_strict}
 use Rattle.amqp_messages.specs.MessageAgain.{message_again, written_by, message_is_rewritten}
 
 pub strict_is_rewritten : {wa : Writing (List (OwnedKey × Value))} {ws : Writing (List (String Global × SimpleValue))}
-    → Agreement annotations_type wa → Agreement simple_map_type ws → {B : Type 0} {group : Reading B} {making : Making B B}
-    {laws : BodyLaws group making} {writing : Writing B}
-    {follows : List ℕ → Type 0} {again : B → B} {kept lasts : B → Type 0} → IsBodyText laws writing follows again kept lasts
-    → Rewriting (reading_via (walk_reading (message_walk Written (message_of laws))) message_in)
+    → Agreement annotations_type wa → Agreement simple_map_type ws → {B : Type 0} {made : Made B B} {writing : Writing B}
+    {follows : List ℕ → Type 0} {again : B → B} {kept lasts : B → Type 0} → IsBodyText made writing follows again kept lasts
+    → Rewriting (reading_via (walk_reading (message_walk Written (message_of made))) message_in)
     (λ (v : Strict B). (written_by wa ws writing).canons (message_in v)) (λ v. (written_by wa ws writing).is_value (message_in v))
     (λ rest. rest ≡ []) (λ v. as_strict (message_again again (message_in v))) (λ v. kept (message_in v).body)
     (λ v. lasts (message_in v).body) false

@@ -3,7 +3,7 @@ use Rattle.amqp_messages.proofs.Limits.{message_bounded, strict_bounded}
 use Rattle.amqp_messages.proofs.laws.limits_bound_messages.Goals as goal
 
 pub returns-clause-any : goal.returns-clause-any
-returns-clause-any g c = message_bounded g.B.FromBody.laws Any
+returns-clause-any g c = message_bounded g.B.FromBody.made Any
 
 pub returns-clause-strict : goal.returns-clause-strict
-returns-clause-strict g c = strict_bounded g.B.FromBody.laws
+returns-clause-strict g c = strict_bounded g.B.FromBody.made

@@ -10,7 +10,7 @@ use Rattle.amqp_messages.proofs.read.read_message.Goals as goal
 pub returns-in_err-code-clause-read : goal.returns-in_err-code-clause-read
 returns-in_err-code-clause-read g c tells =
     refused_at c.from_residual.result c.from_residual.ensures.1
-    (next_refused c.args.order (message_of g.B.FromBody.laws) _ _ _ _ _ (c.loop-groups.invariant.so_far tells)
+    (next_refused c.args.order (message_of g.B.FromBody.made) _ _ _ _ _ (c.loop-groups.invariant.so_far tells)
     (c.in_err-code.ensures.read tells))
 
 pub returns-in_err-code-clause-tries : goal.returns-in_err-code-clause-tries
@@ -22,7 +22,7 @@ returns-in_err-code-clause-tries g c =
 
 pub returns-in_err-read_group-clause-read : goal.returns-in_err-read_group-clause-read
 returns-in_err-read_group-clause-read g c tells =
-    let s = message_of g.B.FromBody.laws in
+    let s = message_of g.B.FromBody.made in
     let there = found_there c.args.order s _ _ c.in-Some.code _
     (found_as c.args.order _ _ _ c.in-Some.is (c.in_ok-code.ensures.read tells)) in
     refused_at c.from_residual-in_err-read_group.result c.from_residual-in_err-read_group.ensures.1
@@ -39,7 +39,7 @@ returns-in_err-read_group-clause-tries g c =
 
 pub loop-groups-preserved : goal.loop-groups-preserved
 loop-groups-preserved g c =
-    let s = message_of g.B.FromBody.laws in
+    let s = message_of g.B.FromBody.made in
     let before = passed_on c.args.decoder.now c.loop-groups.decoder c.next_section.new.decoder c.loop-groups.invariant.passed
     c.in_ok-code.ensures.tries in
     record {
@@ -54,7 +54,7 @@ loop-groups-preserved g c =
 
 pub returns-in-Ok-clause-read : goal.returns-in-Ok-clause-read
 returns-in-Ok-clause-read g c tells =
-    let s = message_of g.B.FromBody.laws in
+    let s = message_of g.B.FromBody.made in
     let h = c.loop-groups.invariant.so_far tells in
     message_made c.args.order s _ _ _ _ _ h
     (found_none c.args.order s _ _ _ _ h (nothing_found c.args.order _ _ c.in_default.not-Some (c.in_ok-code.ensures.read tells)))
@@ -67,7 +67,7 @@ returns-in-Ok-clause-tries g c =
 
 pub returns-in-Err-clause-read : goal.returns-in-Err-clause-read
 returns-in-Err-clause-read g c tells =
-    let s = message_of g.B.FromBody.laws in
+    let s = message_of g.B.FromBody.made in
     let h = c.loop-groups.invariant.so_far tells in
     message_refused c.args.order s _ _ _ _ _ _ _ h
     (found_none c.args.order s _ _ _ _ h (nothing_found c.args.order _ _ c.in_default.not-Some (c.in_ok-code.ensures.read tells)))

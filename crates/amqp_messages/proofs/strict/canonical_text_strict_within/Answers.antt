@@ -2,25 +2,25 @@ use Rattle.amqp_messages.proofs.StrictSteps.{strict_message, text_of_all, again_
 use Rattle.amqp_messages.proofs.strict.canonical_text_strict_within.Goals as goal
 
 pub returns-in-Ok-clause-text : goal.returns-in-Ok-clause-text
-returns-in-Ok-clause-text g c = text_of_all g.B.FromBody.laws c.args.limits.now c.in-Ok.ensures.text
+returns-in-Ok-clause-text g c = text_of_all g.B.FromBody.made c.args.limits.now c.in-Ok.ensures.text
 
 pub returns-in-Ok-clause-read_again : goal.returns-in-Ok-clause-read_again
 returns-in-Ok-clause-read_again g c =
-    again_of_all g.B.FromBody.laws c.args.limits.now c.in-Ok.ensures.text
+    again_of_all g.B.FromBody.made c.args.limits.now c.in-Ok.ensures.text
     c.in-Ok.ensures.read_again
 
 pub returns-in-Ok-clause-one_text : goal.returns-in-Ok-clause-one_text
 returns-in-Ok-clause-one_text g c =
-    one_of_all g.B.FromBody.laws c.args.limits.now c.in-Ok.ensures.text
+    one_of_all g.B.FromBody.made c.args.limits.now c.in-Ok.ensures.text
     c.in-Ok.ensures.one_text
 
 pub returns-in-Ok-clause-no_other : goal.returns-in-Ok-clause-no_other
 returns-in-Ok-clause-no_other g c =
-    other_of_all g.B.FromBody.laws c.args.limits.now c.in-Ok.ensures.text
+    other_of_all g.B.FromBody.made c.args.limits.now c.in-Ok.ensures.text
     c.in-Ok.ensures.no_other
 
 pub returns-in-Ok-clause-in_any_order : goal.returns-in-Ok-clause-in_any_order
-returns-in-Ok-clause-in_any_order g c = strict_message g.B.FromBody.laws c.args.limits.now
+returns-in-Ok-clause-in_any_order g c = strict_message g.B.FromBody.made c.args.limits.now
 
 pub returns-in-Err-clause-in_any_order : goal.returns-in-Err-clause-in_any_order
-returns-in-Err-clause-in_any_order g c = strict_message g.B.FromBody.laws c.args.limits.now
+returns-in-Err-clause-in_any_order g c = strict_message g.B.FromBody.made c.args.limits.now

@@ -8,6 +8,6 @@ use Rattle.amqp_messages.proofs.strict.StrictDeserialize.deserialize.Goals as go
 
 pub returns-in_err-read_message-clause-read : goal.returns-in_err-read_message-clause-read
 returns-in_err-read_message-clause-read g c tells =
-    let w = message_walk Written (message_of g.B.FromBody.laws) in
+    let w = message_walk Written (message_of g.B.FromBody.made) in
     refused_at c.from_residual.result c.from_residual.ensures.1
     (refused_via (Walked w) (WalkFault w) message_in _ _ _ (c.in_err-read_message.ensures.read tells))
