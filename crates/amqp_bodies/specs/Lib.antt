@@ -17,3 +17,4 @@ pub mod SpelledBodies
 pub mod SpelledFaults
 pub mod SpelledReading
 pub mod NamedFaults
+pub mod ReadsAs

@@ -6,6 +6,7 @@ ghost use Rattle.amqp_primitives.specs.Types.{binary_type};
 ghost use Rattle.amqp_sections.specs.SectionType.{section_of, section_agreement};
 ghost use Rattle.amqp_sections.specs.Sections.{data_naming, in_data, sequence_naming, in_sequence, value_naming, in_value};
 ghost use Rattle.amqp_batches.specs.RepeatedSections.{data_section, sequence_section};
+ghost use Rattle.amqp_bodies.specs.ReadsAs.{reads_itself};
 ghost use Rattle.amqp_bodies.specs.BodyRewriting.{NoBodyFollows};
 ghost use Rattle.amqp_bodies.specs.BodySections.{again_as_body, IsReadAsBody, IsSome, value_section, any_body_rewrites};
 ghost use Rattle.amqp_bodies.specs.BodySections.{empty_body, body_made, any_body_bound};
@@ -155,7 +156,7 @@ impl<T: DeserializeTerm> FromBody for Body<T> {
         Ok(body)
     }
 
-    ghost group_is = { refl };
+    ghost group_is = { reads_itself _ };
 
     ghost empty_is = { λ v h. h };
 

@@ -1,5 +1,5 @@
 //! Values that are read from the body of a message (Part 3, section 3.2.8).
-ghost use Rattle.std.specs.Prelude.{refl};
+ghost use Rattle.amqp_bodies.specs.ReadsAs.{reads_itself};
 ghost use Rattle.amqp_bodies.specs.Bodies.{no_value};
 ghost use Rattle.amqp_bodies.specs.BodySections.{plain_made};
 
@@ -44,7 +44,7 @@ impl<T: ValueFromBody> FromBody for T {
         Ok(body.0)
     }
 
-    ghost group_is = { refl };
+    ghost group_is = { reads_itself _ };
 
     ghost empty_is = { λ v h. h };
 

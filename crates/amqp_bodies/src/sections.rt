@@ -10,6 +10,7 @@ ghost use Rattle.amqp_sections.specs.SectionType.{section_agreement};
 ghost use Rattle.amqp_sections.specs.Sections.{data_naming, in_data, sequence_naming, in_sequence};
 ghost use Rattle.amqp_batches.specs.Batches.{sections_in, batch_again};
 ghost use Rattle.amqp_batches.specs.RepeatedSections.{data_section, sequence_section};
+ghost use Rattle.amqp_bodies.specs.ReadsAs.{reads_itself};
 ghost use Rattle.amqp_bodies.specs.BodyTexts.{section_is_text, batch_is_text};
 ghost use Rattle.amqp_bodies.specs.NullBodies.{value_is_text};
 ghost use Rattle.amqp_codec.specs.TermReading.{reading_of};
@@ -189,7 +190,7 @@ impl<T: DeserializeTerm + FromEmptyBody> FromBody for AmqpValue<T> {
         Ok(body)
     }
 
-    ghost group_is = { refl };
+    ghost group_is = { reads_itself _ };
 
     ghost empty_is = { λ v h. h };
 
@@ -205,7 +206,7 @@ impl<T: DeserializeTerm> FromBody for AmqpSequence<T> {
         Ok(body)
     }
 
-    ghost group_is = { refl };
+    ghost group_is = { reads_itself _ };
 
     ghost empty_is = { λ v h. h };
 
@@ -221,7 +222,7 @@ impl FromBody for Data {
         Ok(body)
     }
 
-    ghost group_is = { refl };
+    ghost group_is = { reads_itself _ };
 
     ghost empty_is = { λ v h. h };
 
@@ -238,7 +239,7 @@ impl<T: BatchItem + DeserializeTerm> FromBody for TransparentVec<T> {
         Ok(body)
     }
 
-    ghost group_is = { refl };
+    ghost group_is = { reads_itself _ };
 
     ghost empty_is = { λ v h. h };
 

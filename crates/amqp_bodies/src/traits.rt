@@ -12,6 +12,7 @@ ghost use Rattle.amqp_batches.specs.Spellings.{Spells};
 ghost use Rattle.amqp_batches.specs.SpellingFaults.{Faults};
 ghost use Rattle.amqp_batches.specs.laws.ReadAs.{IsReadAs};
 ghost use Rattle.amqp_batches.specs.laws.NamedAs.{IsNamedAs};
+ghost use Rattle.amqp_bodies.specs.ReadsAs.{ReadsAs};
 ghost use Rattle.amqp_bodies.specs.SomeReading.{some_reading};
 ghost use Rattle.amqp_bodies.specs.Bodies.{Empties, Made};
 
@@ -103,7 +104,7 @@ pub trait FromBody: FromEmptyBody + Drop {
         ensures memory { IfErr result (λ e. e ≡ Memory) };
 
     // It is read as its type says.
-    ghost group_is: { made.group ≡ Self.Body.group };
+    ghost group_is: { ReadsAs made.group Self.Body.group };
 
     // The values that take the place of an absent body are those that `from_empty_body` states.
     ghost empty_is: { (v : Self) → Self.FromEmptyBody.empties.is v → made.empty v };
@@ -126,7 +127,7 @@ pub trait TransposeOption<To: FromBody>: BodySection + Sized {
         ensures memory { IfErr result (λ e. e ≡ Memory) };
 
     // It is read as its type says.
-    ghost from_is: { transposed.group ≡ Self.From.group };
+    ghost from_is: { ReadsAs transposed.group Self.From.group };
 
     // What takes the place of an absent body is `None`.
     ghost none_is: { (v : Option To) → v ≡ None → transposed.empty v };
@@ -144,7 +145,7 @@ pub trait EmptyIsNothing: DeserializableBody + FromBody<Body = Self> {
         ensures { optional.of_body (Some self) result };
 
     // It is read as itself, where it is there.
-    ghost optional_is: { optional.group ≡ some_reading Self.group };
+    ghost optional_is: { ReadsAs optional.group (some_reading Self.group) };
 
     // An absent body is made of an absent one, and takes its place.
     ghost of_none: { optional.of_body None None };

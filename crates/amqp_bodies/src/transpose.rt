@@ -1,10 +1,11 @@
 //! Bodies in which there may be nothing (Part 3, sections 3.2.6 to 3.2.8).
-ghost use Rattle.std.specs.Prelude.{◌≡◌, [], None, IfOk, IfErr, MatchOption, refl};
+ghost use Rattle.std.specs.Prelude.{◌≡◌, [], None, IfOk, IfErr, MatchOption};
 ghost use Rattle.std.specs.List.{AllZip, Any};
 ghost use Rattle.amqp_wire.specs.declared.error.Error.TheVariants.{Memory};
 ghost use Rattle.amqp_batches.specs.laws.Bound.{term_bound};
 ghost use Rattle.amqp_batches.specs.Batches.{sections_in};
 ghost use Rattle.amqp_batches.specs.SectionGroups.{group_bound};
+ghost use Rattle.amqp_bodies.specs.ReadsAs.{reads_itself};
 ghost use Rattle.amqp_bodies.specs.Bodies.{section_made};
 ghost use Rattle.amqp_bodies.specs.BodySections.{any_body_bound};
 ghost use Rattle.amqp_bodies.specs.SeenReading.{seen_bound};
@@ -77,7 +78,7 @@ impl<T: ValueFromBody> TransposeOption<T> for AmqpValue<T> {
         }
     }
 
-    ghost from_is = { refl };
+    ghost from_is = { reads_itself _ };
 
     ghost none_is = { λ v h. h };
 
@@ -101,7 +102,7 @@ impl<T: DeserializeTerm + FromEmptyBody> TransposeOption<AmqpValue<T>> for AmqpV
         }
     }
 
-    ghost from_is = { refl };
+    ghost from_is = { reads_itself _ };
 
     ghost none_is = { λ v h. h };
 
@@ -133,7 +134,7 @@ impl<T: DeserializeTerm> TransposeOption<AmqpSequence<T>> for AmqpSequence<T> {
         }
     }
 
-    ghost from_is = { refl };
+    ghost from_is = { reads_itself _ };
 
     ghost none_is = { λ v h. h };
 
@@ -159,7 +160,7 @@ impl<T: DeserializeTerm> TransposeOption<TransparentVec<AmqpSequence<T>>>
         }
     }
 
-    ghost from_is = { refl };
+    ghost from_is = { reads_itself _ };
 
     ghost none_is = { λ v h. h };
 
@@ -178,7 +179,7 @@ impl EmptyIsNothing for Data {
         Some(self)
     }
 
-    ghost optional_is = { refl };
+    ghost optional_is = { reads_itself _ };
 
     ghost of_none = { tt };
 
@@ -205,7 +206,7 @@ impl TransposeOption<TransparentVec<Data>> for TransparentVec<Data> {
         }
     }
 
-    ghost from_is = { refl };
+    ghost from_is = { reads_itself _ };
 
     ghost none_is = { λ v h. h };
 
@@ -256,7 +257,7 @@ impl<T: DeserializeTerm> TransposeOption<Body<T>> for Body<T> {
         }
     }
 
-    ghost from_is = { refl };
+    ghost from_is = { reads_itself _ };
 
     ghost none_is = { λ v h. h };
 

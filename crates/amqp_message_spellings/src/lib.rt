@@ -2,7 +2,13 @@
 //! contracts are proved.
 #![tactic(auto)]
 
-ghost use Rattle.std.specs.Prelude.{◌≡◌, ℕ, List, ◌∷◌, ◌++◌};
+ghost use Rattle.std.specs.Prelude.{◌↔◌, ℕ, List, ◌∷◌, ◌++◌, Option as OptionOf};
+ghost use Rattle.amqp_wire.specs.declared.error.Error.{Error as ErrorOf};
+ghost use Rattle.amqp_sections.specs.declared.data.Data.{Data as DataOf};
+ghost use Rattle.amqp_sections.specs.declared.amqp_sequence.AmqpSequence.{AmqpSequence as SequenceOf};
+ghost use Rattle.amqp_sections.specs.declared.amqp_value.AmqpValue.{AmqpValue as ValueOf};
+ghost use Rattle.amqp_batches.specs.declared.transparent_vec.TransparentVec.{TransparentVec};
+ghost use Rattle.amqp_bodies.specs.declared.body.Body.{Body as BodyOf};
 ghost use Rattle.amqp_section_slices.specs.declared.section_kind.SectionKind.{SectionKind};
 ghost use Rattle.amqp_section_slices.specs.Slices.{BeginsWithSection};
 ghost use Rattle.amqp_batches.specs.Spellings.{IsReadExactly, IsTerm, IsSection, IsBatch};
@@ -34,36 +40,50 @@ pub fn bodies_are_spelled<B: DeserializableBody>()
 
 /// A body of any kind is spelled by one value, or by as many sections with bytes or with lists as there are. By itself, it is read as such.
 pub fn any_body_is_spelled<T: DeserializeTerm>()
-    ensures spells { ⟦<Body<T> as DeserializableBody>⟧.spells
-        ≡ IsBody ⟦<AmqpValue<T> as DeserializeTerm>⟧.term ⟦<Data as DeserializeTerm>⟧.term ⟦<AmqpSequence<T> as DeserializeTerm>⟧.term }
-    ensures faults { ⟦<Body<T> as DeserializableBody>⟧.faults
-        ≡ IsBodyFault ⟦<Data as DeserializeTerm>⟧.term ⟦<AmqpSequence<T> as DeserializeTerm>⟧.term }
+    ensures spells { (b : List ℕ) (v : BodyOf T) (more : List ℕ) → ⟦<Body<T> as DeserializableBody>⟧.spells b v more
+        ↔ IsBody ⟦<AmqpValue<T> as DeserializeTerm>⟧.term ⟦<Data as DeserializeTerm>⟧.term ⟦<AmqpSequence<T> as DeserializeTerm>⟧.term b v more }
+    ensures faults { (at : List ℕ) (e : ErrorOf) → ⟦<Body<T> as DeserializableBody>⟧.faults at e
+        ↔ IsBodyFault ⟦<Data as DeserializeTerm>⟧.term ⟦<AmqpSequence<T> as DeserializeTerm>⟧.term at e }
     ensures exactly { IsReadExactly ⟦<Body<T> as Deserialize>⟧.reading ⟦<Body<T> as DeserializableBody>⟧.spells }
     ensures refused { IsRefusedFor ⟦<Body<T> as Deserialize>⟧.reading ⟦<Body<T> as DeserializableBody>⟧.faults }
 {}
 
-/// A section is spelled by its term.
-pub fn sections_are_spelled<T: DeserializeTerm>()
-    ensures value { ⟦<AmqpValue<T> as DeserializableBody>⟧.spells ≡ IsTerm ⟦<AmqpValue<T> as DeserializeTerm>⟧.term }
-    ensures sequence { ⟦<AmqpSequence<T> as DeserializableBody>⟧.spells ≡ IsTerm ⟦<AmqpSequence<T> as DeserializeTerm>⟧.term }
-    ensures data_ { ⟦<Data as DeserializableBody>⟧.spells ≡ IsTerm ⟦<Data as DeserializeTerm>⟧.term }
-    ensures value_faults { ⟦<AmqpValue<T> as DeserializableBody>⟧.faults ≡ IsNoTerm }
-    ensures sequence_faults { ⟦<AmqpSequence<T> as DeserializableBody>⟧.faults ≡ IsNoTerm }
-    ensures data_faults { ⟦<Data as DeserializableBody>⟧.faults ≡ IsNoTerm }
+/// A section with a value is spelled by its term.
+pub fn values_are_spelled<T: DeserializeTerm>()
+    ensures spells { (b : List ℕ) (v : ValueOf T) (more : List ℕ) → ⟦<AmqpValue<T> as DeserializableBody>⟧.spells b v more
+        ↔ IsTerm ⟦<AmqpValue<T> as DeserializeTerm>⟧.term b v more }
+    ensures faults { (at : List ℕ) (e : ErrorOf) → ⟦<AmqpValue<T> as DeserializableBody>⟧.faults at e ↔ IsNoTerm at e }
+{}
+
+/// So is one with a list.
+pub fn sequences_are_spelled<T: DeserializeTerm>()
+    ensures spells { (b : List ℕ) (v : SequenceOf T) (more : List ℕ) → ⟦<AmqpSequence<T> as DeserializableBody>⟧.spells b v more
+        ↔ IsTerm ⟦<AmqpSequence<T> as DeserializeTerm>⟧.term b v more }
+    ensures faults { (at : List ℕ) (e : ErrorOf) → ⟦<AmqpSequence<T> as DeserializableBody>⟧.faults at e ↔ IsNoTerm at e }
+{}
+
+/// So is one with bytes.
+pub fn data_are_spelled()
+    ensures spells { (b : List ℕ) (v : DataOf) (more : List ℕ) → ⟦<Data as DeserializableBody>⟧.spells b v more
+        ↔ IsTerm ⟦<Data as DeserializeTerm>⟧.term b v more }
+    ensures faults { (at : List ℕ) (e : ErrorOf) → ⟦<Data as DeserializableBody>⟧.faults at e ↔ IsNoTerm at e }
 {}
 
 /// A batch that is a body isn't empty: it begins with one of its sections.
 pub fn batches_are_bodies<T: BatchItem + DeserializeTerm>()
-    ensures spells { ⟦<Batch<T> as DeserializableBody>⟧.spells ≡ IsSection T.code (IsBatch T.code (IsTerm T.term)) }
-    ensures faults { ⟦<Batch<T> as DeserializableBody>⟧.faults ≡ IsSectionFault T.code (IsRunFault T.code T.term) }
+    ensures spells { (b : List ℕ) (v : TransparentVec T) (more : List ℕ) → ⟦<Batch<T> as DeserializableBody>⟧.spells b v more
+        ↔ IsSection T.code (IsBatch T.code (IsTerm T.term)) b v more }
+    ensures faults { (at : List ℕ) (e : ErrorOf) → ⟦<Batch<T> as DeserializableBody>⟧.faults at e
+        ↔ IsSectionFault T.code (IsRunFault T.code T.term) at e }
 {}
 
 /// A body that may be absent is spelled where it is there.
 pub fn optional_bodies_are_spelled<B: DeserializableBody>()
 where
     Option<B>: Drop,
-    ensures spells { ⟦<Option<B> as DeserializableBody>⟧.spells ≡ IsThere B.spells }
-    ensures faults { ⟦<Option<B> as DeserializableBody>⟧.faults ≡ B.faults }
+    ensures spells { (b : List ℕ) (v : OptionOf B) (more : List ℕ) → ⟦<Option<B> as DeserializableBody>⟧.spells b v more
+        ↔ IsThere B.spells b v more }
+    ensures faults { (at : List ℕ) (e : ErrorOf) → ⟦<Option<B> as DeserializableBody>⟧.faults at e ↔ B.faults at e }
 {}
 
 /// A message is read from the first n bytes of an input exactly if these are groups of sections, one after another: at most seven in any
