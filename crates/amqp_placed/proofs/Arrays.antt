@@ -18,8 +18,7 @@ use Rattle.amqp_decoder.specs.Arrays.{no_items_opened, no_start, not_begun, wron
 use Rattle.amqp_decoder.specs.Places.{Located, At}
 use Rattle.amqp_decoder.proofs.Rooms.{room_fits}
 use Rattle.amqp_decoder.proofs.Opening.{not_array}
-use Rattle.amqp_placed.specs.Facing.{bytes_open, IsAround, Faces, Shows, IsShown, any_input, without_arrays, HasNoArrays, IsAhead}
-use Rattle.amqp_placed.specs.Shown.{IsOfNoConstructor}
+use Rattle.amqp_placed.specs.Facing.{bytes_open, IsAround, Faces, Shows, IsShown}
 use Rattle.amqp_placed.proofs.Past.{past_code, past_taken, has_bound, past_bytes, past_length, past_around}
 use Rattle.amqp_placed.proofs.Here.{wrong_as, here_shows, begin_wrong, other_code_wrong}
 use Rattle.amqp_placed.proofs.Onward.{onward_shows}
@@ -88,31 +87,3 @@ items_wrong st c w m e P d around h code is (too_deep n content m2 header deep e
     let past = past_code st c m code in
     let few = room_fits st h.room code.item (λ flat. not_flat st.top.shared c w code.own array code.first is flat) in
     absurd (omega (arith, few, deep, past.nesting, ap length past.saved))
-
--- Why no array is opened, but for its constructor.
-pub array_unopened_shown : (st : State) (f : Located) → IsOfNoConstructor f.error → At array_left st f → IsShown any_input st f
-array_unopened_shown st f other (not_begun fault, is) P d around meant h =
-    here_shows st f P d around is (begin_wrong st f.error P d around h fault)
-array_unopened_shown st f other (wrong_code c m code differs error, is) P d around meant h =
-    here_shows st f P d around is
-    (wrong_as f.error (refusal_of c) around P d (bytes_open st) error (other_code_wrong st c m P d around h code))
-array_unopened_shown st f other (no_data c w m code array_ (no_items_opened fault), is) P d around meant h =
-    here_shows st f P d around is (items_wrong st c w m f.error P d around h code array_ fault)
-array_unopened_shown st f other (no_data c w m code array_ (no_start n content m2 header some fault), is) P d around meant h =
-    absurd (shares_not n (in_container InArray 0 content m2) f.error fault other)
-
--- No array begins where there are none.
-pub no_array_there : (st : State) (c w : ℕ) (m : State) → IsAhead without_arrays st → ReadsCode st c m → format c ≡ compound array w → ⊥
-no_array_there st c w m ahead code is =
-    let first : code.own ≡ c ∷ [] = subst (λ o. IsFirst o c code.own) ahead.1 code.first in
-    let there : HasNoArrays (c ∷ m.rest) =
-    subst HasNoArrays ((past_code st c m code).rest ∙ ap (λ l. l ++ m.rest) first) ahead.0 in
-    not_array c there.0 there.1 w is
-
-pub none_unopened_shown : (st : State) (f : Located) → At array_left st f → IsShown without_arrays st f
-none_unopened_shown st f (not_begun fault, is) P d around ahead h =
-    here_shows st f P d around is (begin_wrong st f.error P d around h fault)
-none_unopened_shown st f (wrong_code c m code differs error, is) P d around ahead h =
-    here_shows st f P d around is
-    (wrong_as f.error (refusal_of c) around P d (bytes_open st) error (other_code_wrong st c m P d around h code))
-none_unopened_shown st f (no_data c w m code array_ fault, is) P d around ahead h = absurd (no_array_there st c w m ahead code array_)

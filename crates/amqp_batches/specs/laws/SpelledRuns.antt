@@ -11,8 +11,8 @@ use Rattle.amqp_batches.specs.laws.State.{alike_rest}
 use Rattle.amqp_batches.specs.Runs.{RunStep, run_walk}
 use Rattle.amqp_batches.specs.Walk.{Steps}
 use Rattle.amqp_batches.specs.WalkReading.{walk_reading}
-use Rattle.amqp_message_spellings.specs.Spellings.{Spells, IsSection, Are, IsRun}
-use Rattle.amqp_message_spellings.proofs.ReadAs.{IsReadAs, took, takes, still_free}
+use Rattle.amqp_batches.specs.Spellings.{Spells, IsSection, Are, IsRun}
+use Rattle.amqp_batches.specs.laws.ReadAs.{IsReadAs, took, takes, still_free}
 
 module _ {T : Type 0} (c : ℕ) {r : Reading T} {spells : Spells T} (l : IsReadAs r spells) where
   pub record TookSome (st : State) (xs ys : List T) (b : State) : Type 0 where

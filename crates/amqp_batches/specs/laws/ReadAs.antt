@@ -10,7 +10,7 @@ use Rattle.amqp_batches.specs.Bounds.{IsBoundByLimits}
 use Rattle.amqp_batches.specs.laws.Bound.{term_bound, still_fresh, still_unlimited}
 use Rattle.amqp_batches.specs.laws.State.{alike_rest}
 use Rattle.amqp_batches.specs.laws.Resuming.{IsUnlimited, IsReadHere, was_read, read_here}
-use Rattle.amqp_message_spellings.specs.Spellings.{Spells, Begins, IsReadExactly, IsTerm}
+use Rattle.amqp_batches.specs.Spellings.{Spells, Begins, IsReadExactly, IsTerm}
 
 pub record IsReadAs {T : Type 0} (r : Reading T) (spells : Spells T) : Type 0 where
   pub bound : IsBoundByLimits r

@@ -17,7 +17,7 @@ use Rattle.amqp_codec.specs.Reading.{looking, AreAlike, start}
 use Rattle.amqp_batches.specs.NoSections.{NoSection, no_code, other_value, no_descriptor, other_descriptor}
 use Rattle.amqp_batches.specs.laws.Resuming.{IsUnlimited}
 use Rattle.amqp_batches.specs.laws.State.{alike_rest}
-use Rattle.amqp_message_spellings.specs.Faults.{IsNoTerm}
+use Rattle.amqp_batches.specs.SpellingFaults.{IsNoTerm}
 use Rattle.amqp_codec.specs.laws.Within.{here_within, open_within}
 
 -- One without limits stands as one does that has read nothing of what is left.

@@ -1,5 +1,5 @@
 -- Which bytes spell a value, where others follow them (Part 3, section 3.2).
-use Rattle.std.specs.Prelude.{◌↔◌, ◌≡◌, ℕ, ◌≤◌, List, [], ◌∷◌, ◌++◌, length, take, drop, Option, Some, None}
+use Rattle.std.specs.Prelude.{◌↔◌, ◌≡◌, ℕ, ◌≤◌, List, [], ◌∷◌, ◌++◌, length, take, drop}
 use Rattle.amqp_lookahead.specs.Sections.{IsSectionAhead}
 use Rattle.amqp_codec.specs.TermType.{TermType}
 use Rattle.amqp_codec.specs.Reading.{Reading, BeginsWith}
@@ -40,8 +40,3 @@ IsRun c spells b vs more = Are (IsSection c spells) b vs more × (IsSectionAhead
 -- The same as one value.
 abbrev pub IsBatch : {T : Type 0} → ℕ → Spells T → Spells (TransparentVec T)
 IsBatch c spells b batch more = IsRun c spells b (sections_in batch) more
-
--- A value that may be absent, and is there.
-abbrev pub IsThere : {T : Type 0} → Spells T → Spells (Option T)
-IsThere spells b None more = ⊥
-IsThere spells b (Some v) more = spells b v more

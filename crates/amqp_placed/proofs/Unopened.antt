@@ -15,8 +15,7 @@ use Rattle.amqp_decoder.specs.Arrays.{no_constructor, zero_width, too_nested, sh
 use Rattle.amqp_decoder.specs.Arrays.{no_items_opened, no_start, not_begun, wrong_code, no_data, array_left}
 use Rattle.amqp_decoder.specs.Places.{Located, At}
 use Rattle.amqp_decoder.proofs.Constructed.{code_known}
-use Rattle.amqp_placed.specs.Facing.{bytes_open, Shows, IsShown, Inputs}
-use Rattle.amqp_placed.specs.Bounds.{HasFewMarks, SharesFew, IsBounded}
+use Rattle.amqp_placed.specs.Facing.{bytes_open, Shows, IsShown}
 use Rattle.amqp_placed.proofs.Past.{past_taken, past_bytes, past_around, past_unlimited}
 use Rattle.amqp_placed.proofs.Codes.{code_wrong}
 use Rattle.amqp_placed.proofs.Here.{none_some, wrong_as, here_from, here_shows, lacks_wrong, no_bytes, begin_wrong, other_code_wrong}
@@ -41,14 +40,13 @@ at_code m f n d around ds own y x few marks bytes rest place h = record {
       (here_from around (a_code (length ds)) d y f.error h);
 }
 
-constructor_shows : (m : State) (f : Located) (n d : ℕ) (around : Around) → Begun d around m → (h : At constructor_left m f)
-    → HasFewMarks m f.error h.0 → Shows m f (an_array n) d around
-constructor_shows m f n d around b (no_code ds own m2 marks took lacks, is) few =
+constructor_shows : (m : State) (f : Located) (n d : ℕ) (around : Around) → Begun d around m → At constructor_left m f → Shows m f (an_array n) d around
+constructor_shows m f n d around b (no_code ds own m2 few marks took lacks, is) =
     let past = past_taken m own m2 took in
     at_code m f n d around ds own (bytes_open m2) m2.rest few marks (past_bytes past) past.rest is
     (lacks_wrong around (a_code (length ds)) d (bytes_open m2) 1 m2 f.error (past_around past around b.is_around)
     (past_unlimited past (unlimited_in d around m b)) (λ less. no_bytes (bytes_open m2) less) lacks)
-constructor_shows m f n d around b (no_mark ds m2 t fault, is) few =
+constructor_shows m f n d around b (no_mark ds m2 few t fault, is) =
     let past = past_taken m (t.own ++ 0 ∷ []) m2 t.took in
     let bytes : bytes_open m ≡ t.own ++ 0 ∷ bytes_open m2 = past_bytes past ∙ append_assoc t.own (0 ∷ []) (bytes_open m2) in
     let rest : m.rest ≡ t.own ++ 0 ∷ m2.rest = past.rest ∙ append_assoc t.own (0 ∷ []) m2.rest in
@@ -71,12 +69,12 @@ constructor_shows m f n d around b (no_mark ds m2 t fault, is) few =
           (descriptor_wrong m2 f.error d around (past_around past around b.is_around) (past_unlimited past
           (unlimited_in d around m b)) fault)));
     }
-constructor_shows m f n d around b (too_many ds m2 t many error, is) few =
+constructor_shows m f n d around b (too_many ds m2 few t error, is) =
     let past = past_taken m (t.own ++ 0 ∷ []) m2 t.took in
     at_code m f n d around ds t.own (0 ∷ bytes_open m2) (0 ∷ m2.rest) (omega (arith, few)) t.marks
     (past_bytes past ∙ append_assoc t.own (0 ∷ []) (bytes_open m2)) (past.rest ∙ append_assoc t.own (0 ∷ []) m2.rest) is
     (wrong_as f.error Depth around (a_code (length ds)) d (0 ∷ bytes_open m2) error (inr (ap a_code few, (bytes_open m2, refl))))
-constructor_shows m f n d around b (no_known_code ds c m2 t some none error, is) few =
+constructor_shows m f n d around b (no_known_code ds c m2 few t some none error, is) =
     let past = past_taken m (t.own ++ c ∷ []) m2 t.took in
     at_code m f n d around ds t.own (c ∷ bytes_open m2) (c ∷ m2.rest) few t.marks
     (past_bytes past ∙ append_assoc t.own (c ∷ []) (bytes_open m2)) (past.rest ∙ append_assoc t.own (c ∷ []) m2.rest) is
@@ -93,14 +91,12 @@ constructs : (m : State) (ds : List Descriptor) (c : ℕ) (m2 : State) → Takes
     → Behind (Constructs (length ds) c) (bytes_open m) (bytes_open m2)
 constructs m ds c m2 t = record { front = t.own; is = past_bytes (past_taken m t.own m2 t.took); spelled = (ds, refl, t.few, t.spelled) }
 
-shares_shows : (m : State) (f : Located) (n d : ℕ) (around : Around) → Begun d around m → (h : At (shares_left n) m f)
-    → SharesFew n m f.error h.0
-    → Shows m f (an_array n) d around
-shares_shows m f n d around b (no_constructor fault, is) few = constructor_shows m f n d around b (fault, is) few
-shares_shows m f n d around b (zero_width ds c m2 some t empty error, is) few =
+shares_shows : (m : State) (f : Located) (n d : ℕ) (around : Around) → Begun d around m → At (shares_left n) m f → Shows m f (an_array n) d around
+shares_shows m f n d around b (no_constructor fault, is) = constructor_shows m f n d around b (fault, is)
+shares_shows m f n d around b (zero_width ds c m2 some t empty error, is) =
     here_shows m f (an_array n) d around is (wrong_as f.error ZeroWidthItems around (an_array n) d (bytes_open m) error
     (n, length ds, c, bytes_open m2, refl, constructs m ds c m2 t, some_items n some, empty))
-shares_shows m f n d around b (too_nested ds c m2 some t uneven deep error, is) few =
+shares_shows m f n d around b (too_nested ds c m2 some t uneven deep error, is) =
     let level : level_of (length ds) c ≡ 1 =
     elim (flat_or_level ds c (code_known ds c t.own t.spelled)) [ inl flat ↦ absurd (uneven flat) | inr one ↦ one ] in
     here_shows m f (an_array n) d around is (wrong_as f.error Depth around (an_array n) d (bytes_open m) (error ∙ ap depth_error b.nesting)
@@ -115,15 +111,15 @@ shares_shows m f n d around b (too_nested ds c m2 some t uneven deep error, is) 
       omega (arith, deep, b.nesting, b.deep, level),
     ))))))
 
--- Each fault of an array that isn't opened, where its constructor is bounded and its items have room.
-pub bounded_shown : (inputs : Inputs) (st : State) (f : Located) (h : At array_left st f) → IsBounded st f.error h.0 → IsShown inputs st f
-bounded_shown inputs st f (not_begun fault, is) bounded P d around meant h = here_shows st f P d around is
+-- Each fault of an array that isn't opened.
+pub array_unopened_shown : (st : State) (f : Located) → At array_left st f → IsShown st f
+array_unopened_shown st f (not_begun fault, is) P d around h = here_shows st f P d around is
     (begin_wrong st f.error P d around h fault)
-bounded_shown inputs st f (wrong_code c m code differs error, is) bounded P d around meant h =
+array_unopened_shown st f (wrong_code c m code differs error, is) P d around h =
     here_shows st f P d around is
     (wrong_as f.error (refusal_of c) around P d (bytes_open st) error (other_code_wrong st c m P d around h code))
-bounded_shown inputs st f (no_data c w m code array_ (no_items_opened fault), is) bounded P d around meant h =
+array_unopened_shown st f (no_data c w m code array_ (no_items_opened fault), is) P d around h =
     here_shows st f P d around is (items_wrong st c w m f.error P d around h code array_ fault)
-bounded_shown inputs st f (no_data c w m code array_ (no_start n content m2 header some fault), is) bounded P d around meant h =
-    content_shows st c w m n content m2 f P d around h code array_ header bounded.0
-    (λ inner b. shares_shows (in_container InArray 0 content m2) f n d inner b (fault, is) bounded.1)
+array_unopened_shown st f (no_data c w m code array_ (no_start n content m2 header room some fault), is) P d around h =
+    content_shows st c w m n content m2 f P d around h code array_ header room
+    (λ inner b. shares_shows (in_container InArray 0 content m2) f n d inner b (fault, is))
