@@ -1,13 +1,15 @@
 //! What the input is, and its blocks one after another.
-ghost use Rattle.std.specs.Prelude.{◌≡◌, ◌-◌, false, length, IfOk, IfSome, IfNone};
-ghost use Rattle.amqp_blocks.specs.Blocks.{BeginsInput, IsNext, IsAllTold};
+ghost use Rattle.std.specs.Prelude.{◌≡◌, ◌-◌, false, length, Some, IfOk, IfSome, IfNone};
+ghost use Rattle.amqp_blocks.specs.Blocks.{BeginsInput, IsNext, IsSourceOf, IsAllTold};
+ghost use Rattle.amqp_blocks.specs.declared.source.Form.{Form};
 
 use crate::block::Block;
 use crate::bounds::Bounds;
-use crate::described::{is_section, type_at};
+use crate::described::type_at;
 use crate::frames::Frames;
 use crate::message::Sections;
 use crate::term::Term;
+use amqp_descriptors::is_section;
 use amqp_lines::TypeName;
 use std::alloc::{AllocError, Global};
 
@@ -58,6 +60,7 @@ impl Source {
         alloc: Global,
     ) -> Result<Option<Source>, AllocError>
         ensures ahead { IfOk result (λ found. IfSome found (IsNext (length input.now))) }
+        ensures form { (form : Form) → options.now.form ≡ Some form → IfOk result (λ found. IfSome found (IsSourceOf form)) }
         ensures none { IfOk result (λ found. IfNone found (is_end ≡ false)) }
     {
         let form = match options.form {

@@ -1,5 +1,5 @@
 //! The values that omitted fields have (Part 1, section 1.4).
-use crate::described::field_name;
+use crate::fields::field_name;
 use amqp_lines::TypeName;
 
 /// Returns the default value of the field with this number, as the standard writes it, or `None` if the field has none (Part 2,
