@@ -1,31 +1,26 @@
 -- From an array to its content, and why none is opened (Part 1, sections 1.2.4 and 1.6.24).
-use Rattle.std.proofs.Common.{◌≡◌, [], ◌∷◌, ℕ, suc, ◌≤◌, false, Some, None, ◌++◌, length, take}
+use Rattle.std.proofs.Common.{◌≡◌, ℕ, suc, ◌≤◌, false, Some, None, ◌++◌, length, take}
 use Rattle.std.proofs.Common.{refl, sym, ap, ◌∙◌, subst, arith}
 use Rattle.std.proofs.lemmas.List.{length-append}
 use Rattle.std.specs.Int.{bytes_high_first}
 use Rattle.amqp_model.specs.Term.{array}
 use Rattle.amqp_model.specs.Constructors.{compound, format}
 use Rattle.amqp_wire.specs.declared.error.Error.{Error}
-use Rattle.amqp_wire.specs.Codes.{refusal_of}
 use Rattle.amqp_lengths.specs.Stands.{Piece, an_array, Around, outermost}
 use Rattle.amqp_lengths.specs.Stands.{Step, to_array, IsWrong}
 use Rattle.amqp_decoder.specs.declared.frame.Place.TheVariants.{InArray}
 use Rattle.amqp_decoder.specs.State.{State, Has, bound_of, in_container}
-use Rattle.amqp_decoder.specs.Reading.{IsFirst, ReadsCode}
+use Rattle.amqp_decoder.specs.Reading.{ReadsCode}
 use Rattle.amqp_decoder.specs.Containers.{ReadsHeader}
 use Rattle.amqp_decoder.specs.Arrays.{OpenItemsFault, no_header, no_room, too_deep}
-use Rattle.amqp_decoder.specs.Arrays.{no_items_opened, no_start, not_begun, wrong_code, no_data, array_left}
-use Rattle.amqp_decoder.specs.Places.{Located, At}
+use Rattle.amqp_decoder.specs.Places.{Located}
 use Rattle.amqp_decoder.proofs.Rooms.{room_fits}
-use Rattle.amqp_decoder.proofs.Opening.{not_array}
-use Rattle.amqp_placed.specs.Facing.{bytes_open, IsAround, Faces, Shows, IsShown}
+use Rattle.amqp_placed.specs.Facing.{bytes_open, IsAround, Faces, Shows}
 use Rattle.amqp_placed.proofs.Past.{past_code, past_taken, has_bound, past_bytes, past_length, past_around}
-use Rattle.amqp_placed.proofs.Here.{wrong_as, here_shows, begin_wrong, other_code_wrong}
 use Rattle.amqp_placed.proofs.Onward.{onward_shows}
 use Rattle.amqp_placed.proofs.Contents.{content_there}
 use Rattle.amqp_placed.proofs.Opening.{entering, compound_some, not_flat, header_wrong, no_room_wrong, head_is}
 use Rattle.amqp_placed.proofs.Inside.{take_up_to, entered_around}
-use Rattle.amqp_placed.proofs.Constructors.{shares_not}
 
 -- An array's content, before its constructor.
 pub record Begun (d : ℕ) (around : Around) (m : State) : Type 0 where

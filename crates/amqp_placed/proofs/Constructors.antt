@@ -1,5 +1,5 @@
 -- The level of what stands under the constructor that an array's items share (Part 1, section 1.2.4).
-use Rattle.std.proofs.Common.{◌≡◌, ℕ, suc, arith, leb, ◌⊎◌, inl, inr, cond, eqb, ◌||◌, List, [], ◌∷◌, length, ap}
+use Rattle.std.proofs.Common.{◌≡◌, ℕ, suc, arith, leb, ◌⊎◌, inl, inr, false, cond, eqb, ◌||◌, List, [], ◌∷◌, length, ap}
 use Rattle.std.proofs.lemmas.Bool.{lt-ltb}
 use Rattle.amqp_model.specs.Term.{Descriptor}
 use Rattle.amqp_model.specs.Constructors.{Format, fixed, variable, compound, unknown, format}

@@ -203,7 +203,7 @@ element_shown st first mid n ts b f o row less shown P d around h =
         (behind_rest x d inner begun)
         (to_element n d (bytes_open start) (bytes_open m) (bytes_open mid) ds c (length ts) x.took.few
         (record { front = x.took.own; is = past_bytes (taken x d inner begun); spelled = x.took.spelled }) less (items_row x d inner begun))
-        (shown Q (d + level_of (length ds) c) inner tt faces)
+        (shown Q (d + level_of (length ds) c) inner faces)
 
 -- nothing is left over in an array without bytes
 empty_closed : (content : ℕ) (m : State) (e : Error) → content ≡ 0 → CloseFault InArray (in_container InArray 0 content m) e → ⊥

@@ -56,9 +56,9 @@ module _ (st : State) (f : Located) (P : Piece) (d : ℕ) (around : Around) (h :
     (other : IsOfNoEnd f.error) where
   -- behind some descriptors of its own
   constructor_found : (fault : ConstructorFault st f.error) → f.left ≡ constructor_left st f.error fault → Shows st f P d around
-  constructor_found (no_code ds own_ m marks took lacks) is =
+  constructor_found (no_code ds own_ m few marks took lacks) is =
       absurd (lacks_not 1 m f.error (past_unlimited (past_taken st own_ m took) h.unlimited) lacks other)
-  constructor_found (no_mark ds m t fault) is =
+  constructor_found (no_mark ds m few t fault) is =
       let past = past_taken st (t.own ++ 0 ∷ []) m t.took in
       let bytes : bytes_open st ≡ t.own ++ 0 ∷ bytes_open m = past_bytes past ∙ append_assoc t.own (0 ∷ []) (bytes_open m) in
       shows_found st f P d around (length (bytes_open m)) other
@@ -69,7 +69,7 @@ module _ (st : State) (f : Located) (P : Piece) (d : ℕ) (around : Around) (h :
       (any_around f.error unbounded around a_descriptor (d + length ds) (bytes_open m) other
       (descriptor_wrong m f.error (d + length ds) around (past_around past around h.is_around) (past_unlimited past h.unlimited) fault)))))
       (omega (arith, is, ap length bytes, length-append t.own (0 ∷ bytes_open m), past_length past, length-append t.own (0 ∷ [])))
-  constructor_found (too_many ds m t many error) is =
+  constructor_found (too_many ds m many t error) is =
       let past = past_taken st (t.own ++ 0 ∷ []) m t.took in
       let bytes : bytes_open st ≡ t.own ++ 0 ∷ bytes_open m = past_bytes past ∙ append_assoc t.own (0 ∷ []) (bytes_open m) in
       shows_found st f P d around (suc (length (bytes_open m))) other
@@ -78,7 +78,7 @@ module _ (st : State) (f : Located) (P : Piece) (d : ℕ) (around : Around) (h :
       (wrong_as f.error Depth unbounded Q (d + length ds) (0 ∷ bytes_open m) error
       (inl (inl (own_marked Q (0 ∷ bytes_open m) (bytes_open m) o refl, omega (arith, many)))))))
       (omega (arith, is, ap length bytes, length-append t.own (0 ∷ bytes_open m), past_length past, length-append t.own (0 ∷ [])))
-  constructor_found (no_known_code ds c m t some none error) is =
+  constructor_found (no_known_code ds c m few t some none error) is =
       let past = past_taken st (t.own ++ c ∷ []) m t.took in
       let bytes : bytes_open st ≡ t.own ++ c ∷ bytes_open m = past_bytes past ∙ append_assoc t.own (c ∷ []) (bytes_open m) in
       shows_found st f P d around (suc (length (bytes_open m))) other

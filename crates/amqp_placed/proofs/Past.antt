@@ -110,3 +110,30 @@ pub lowered_sum : (o q : Option ℕ) (n l others : ℕ) → o ≡ Some l → Has
     → n + (unwrap_or q 0 + others) ≡ unwrap_or o 0 + others
 lowered_sum None q n l others none h is = absurd (cc)
 lowered_sum (Some k) q n l others some h is = omega (arith, h, ap (λ x. unwrap_or x 0) is)
+
+module _ {own : List ℕ} {st m : State} (h : Past own st m) where
+  pub past_length : length st.rest ≡ length own + length m.rest
+  past_length = ap length h.rest ∙ length-append own m.rest
+
+  past_sum : (l : ℕ) → bound_of st.top ≡ Some l → length own + (unwrap_or (bound_of m.top) 0 + bytes_left m.saved)
+      ≡ unwrap_or (bound_of st.top) 0 + bytes_left st.saved
+  past_sum l some =
+      ap (λ k. length own + (unwrap_or (bound_of m.top) 0 + k)) (ap bytes_left h.saved)
+      ∙ lowered_sum (bound_of st.top) (bound_of m.top) (length own) l (bytes_left st.saved) some
+      (has_bound st.top.sized st.top.left (length own) h.room) (past_bound h)
+
+  pub past_around : (around : Around) → IsAround around st → IsAround around m
+  past_around unbounded (none, outer) =
+      (past_bound h ∙ ap (λ o. lower o (length own)) none, ap bytes_left h.saved ∙ outer)
+  past_around whole_one (l, some, all) =
+      (l - length own, past_bound h ∙ ap (λ o. lower o (length own)) some, omega (arith, past_sum l some, past_length, all))
+  past_around cut_one (l, some, few) =
+      (l - length own, past_bound h ∙ ap (λ o. lower o (length own)) some, omega (arith, past_sum l some, past_length, few))
+
+  pub past_unlimited : (bound_of st.top ≡ None → st.top.left ≡ None) → bound_of m.top ≡ None → m.top.left ≡ None
+  past_unlimited unlimited none =
+      h.left ∙ ap (λ o. lower o (length own)) (unlimited (lower_some (bound_of st.top) (length own) (sym (past_bound h) ∙ none)))
+    where
+      lower_some : (o : Option ℕ) (n : ℕ) → lower o n ≡ None → o ≡ None
+      lower_some None n e = refl
+      lower_some (Some l) n e = absurd (cc)
