@@ -7,13 +7,13 @@ mod content;
 mod defaults;
 mod fields;
 mod meanings;
-mod names;
 mod symbols;
+mod type_names;
 
 pub use codes::type_of_code;
 pub use content::{Content, content_of, is_section};
 pub use defaults::default_of;
 pub use fields::{field_name, field_names, missing_field};
 pub use meanings::meaning;
-pub use names::{name_of, names};
 pub use symbols::code_of_symbol;
+pub use type_names::{name_of, names};

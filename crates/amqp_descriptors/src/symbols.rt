@@ -5,7 +5,7 @@ ghost use Rattle.amqp_descriptors.specs.Descriptors.{code_of};
 
 use crate::codes::type_of_code;
 use crate::content::content_of;
-use crate::names::name_of;
+use crate::type_names::name_of;
 use amqp_lines::TypeName;
 
 /// The codes of the descriptors of types, and a few between them that are of none.
