@@ -1,5 +1,5 @@
 -- Blocks begin the input that they are made of.
-use Rattle.std.proofs.Common.{◌≡◌, ℕ, Bool, ◌≤◌, ◌<◌, ◌-◌, ◌*◌, ◌∙◌, min, take, drop, List, length, Option, Some, None, IfSome, unwrap_or, refl, sym, ap, subst, arith, Result, Ok, Err, IfOk, inl}
+use Rattle.std.proofs.Common.{◌≡◌, ℕ, Bool, ◌≤◌, ◌<◌, ◌-◌, ◌*◌, ◌∙◌, min, take, drop, List, length, Option, Some, None, IfSome, unwrap_or, sym, ap, subst, arith, Result, Ok, Err, IfOk, inl}
 use Rattle.std.specs.Prelude.{IfNone}
 use Rattle.std.proofs.lemmas.List.{length-take, length-drop}
 use Rattle.amqp_frames.specs.FrameErrors.{place_of}

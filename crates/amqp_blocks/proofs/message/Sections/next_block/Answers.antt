@@ -1,4 +1,4 @@
-use Rattle.std.proofs.Common.{rules, arith, ◌≡◌, ◌≤◌, ◌<◌, ◌-◌, length, unwrap_or, IfSome, ap, ◌∙◌, sym, subst}
+use Rattle.std.proofs.Common.{rules, arith, ◌≤◌, ◌<◌, ◌-◌, length, IfSome, sym, subst}
 use Rattle.amqp_blocks.specs.Blocks.{StandsWithin, IsBlock}
 use Rattle.amqp_blocks.specs.Spans.{IsOutline}
 use Rattle.amqp_blocks.specs.declared.block.Subject.TheVariants.{Section}
