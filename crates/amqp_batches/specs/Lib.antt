@@ -9,4 +9,6 @@ pub mod Batches
 pub mod NoSections
 pub mod GroupTexts
 pub mod SectionGroups
+pub mod Spellings
+pub mod SpellingFaults
 pub mod laws

@@ -6,3 +6,8 @@ pub mod Bound
 pub mod Resuming
 pub mod Row
 pub mod RunRewriting
+pub mod ReadAs
+pub mod SpelledRuns
+pub mod SpelledGroups
+pub mod NoTerms
+pub mod NamedAs

@@ -1,5 +1,5 @@
 -- How the entries of a term grow, value by value.
-use Rattle.std.proofs.Common.{◌≡◌, ◌⊎◌, inl, inr, ℕ, ◌+◌, ◌<◌, ◌≤◌, List, [], ◌∷◌, ◌++◌, length, get_or, Option, Some, None, IfSome, unwrap_or, refl, ap, arith}
+use Rattle.std.proofs.Common.{◌≡◌, inl, inr, ℕ, ◌+◌, ◌<◌, ◌≤◌, List, [], ◌∷◌, ◌++◌, length, get_or, Option, Some, None, IfSome, unwrap_or, refl, ap, arith}
 use Rattle.std.specs.List.{All, AllPairs}
 use Rattle.std.proofs.lemmas.List.{get_or_append_left, get_or_push}
 use Rattle.std.proofs.lemmas.List.Elements.{All-push, All-pop}
@@ -221,12 +221,14 @@ met_found input at around node met h from same =
     let begins = h.begins in
     let next = h.next in
     let within = h.within in
+    let moves = h.moves in
     let kind : met.node.kind ≡ node.kind = ap (λ (x : Node). x.kind) same in
     let end : met.node.end ≡ node.end = ap (λ (x : Node). x.end) same in
     let first : met.node.next ≡ node.next = ap (λ (x : Node). x.next) same in
     record {
       is = record { some = omega arith; begins = omega arith; next = omega arith };
       from = from;
+      moves = λ none. let far : at < node.end = moves none in omega arith;
       within = omega arith;
       inside = λ inner. let low : node.end ≤ around.end = h.inside inner in omega arith;
     }
@@ -237,8 +239,8 @@ pub ended : (l : ℕ) (found : Option ℕ) (end len : ℕ) (es : List Entry) →
 ended l (Some k) end len es same h le = longer_outline l end k es h (omega (arith, same))
 ended l None end len es same h le = longer_outline l end len es h le
 
-pub ended_within : (found : Option ℕ) (from end len : ℕ) → IfSome found (λ k. k ≡ end) → from ≤ end → end ≤ len
-    → IfSome found (λ k. (from ≤ k) × (k ≤ len))
+pub ended_within : (found : Option ℕ) (from end len : ℕ) → IfSome found (λ k. k ≡ end) → from < end → end ≤ len
+    → IfSome found (λ k. (from < k) × (k ≤ len))
 ended_within (Some k) from end len same low high = (omega (arith, same), omega (arith, same))
 ended_within None from end len same low high = tt
 

@@ -1,7 +1,11 @@
 -- What is told of a block is in its bytes, and each byte of a frame belongs to one part of it.
-use Rattle.std.specs.Prelude.{◌≡◌, ◌⊎◌, ℕ, ◌<◌, ◌≤◌, Bool, false, List, length, Option, IfSome, MatchOption}
+use Rattle.std.specs.Prelude.{◌≡◌, ◌⊎◌, ℕ, ◌*◌, ◌<◌, ◌≤◌, Bool, false, List, length, Option, IfSome, MatchOption}
 use Rattle.std.specs.List.{All}
 use Rattle.amqp_wire.specs.declared.refusal.Refusal.{Refusal}
+use Rattle.amqp_frames.specs.declared.frame_header.FrameHeader.{FrameHeader}
+use Rattle.amqp_frames.specs.declared.frame_header.FrameKind.{FrameKind}
+use Rattle.amqp_frames.specs.Frames.{BeginsWithFrame}
+use Rattle.amqp_frames.specs.Headers.{BeginsWithHeader}
 use Rattle.amqp_blocks.specs.declared.block.Block.{Block}
 use Rattle.amqp_blocks.specs.declared.block.Subject.{Subject}
 use Rattle.amqp_blocks.specs.declared.block.Subject.TheVariants.{ProtocolHeader, Frame, NoFrame, CutFrame, Section, Term, Rest}
@@ -9,6 +13,8 @@ use Rattle.amqp_blocks.specs.declared.fault.Fault.{Fault}
 use Rattle.amqp_blocks.specs.declared.frames.Performed.{Performed}
 use Rattle.amqp_blocks.specs.declared.frames.Performed.TheVariants.{WithMessage, Other, Refused}
 use Rattle.amqp_blocks.specs.declared.message.Sections.{Sections}
+use Rattle.amqp_blocks.specs.declared.source.Form.{Form}
+use Rattle.amqp_blocks.specs.declared.source.Form.TheVariants as form
 use Rattle.amqp_blocks.specs.declared.source.Source.{Source}
 use Rattle.amqp_blocks.specs.declared.source.Source.TheVariants as source
 use Rattle.amqp_blocks.specs.Spans.{IsOutline}
@@ -29,15 +35,26 @@ pub record IsBlock (s : Subject) (l m n : ℕ) (b : Block) : Type 0 where
 abbrev pub IsTile : ℕ → ℕ → Option (ℕ × ℕ) → Type 0
 IsTile from to span = MatchOption span (to ≤ from) (λ s. (s.0 ≡ from) × (s.1 ≡ to) × (from < to))
 
--- A frame is its header of eight bytes, the extended header, the value and the payload.
-abbrev pub IsTiled : Subject → (l m : ℕ) → Block → Type 0
-IsTiled (Frame kind) l m b = (8 ≤ l) × IsTile 8 l b.extended × IsTile m b.len b.payload
-IsTiled (ProtocolHeader header) l m b = Unit {0}
-IsTiled NoFrame l m b = Unit {0}
-IsTiled CutFrame l m b = Unit {0}
-IsTiled Section l m b = Unit {0}
-IsTiled Term l m b = Unit {0}
-IsTiled Rest l m b = Unit {0}
+-- The first n bytes are a frame of this kind, whose body begins at the place l.
+pub record IsFrameOf (input : List ℕ) (kind : FrameKind) (l n : ℕ) : Type 0 where
+  pub max : ℕ
+  pub header : FrameHeader
+  pub extended : List ℕ
+  pub body : List ℕ
+  pub begins : BeginsWithFrame max input header extended body
+  pub is_kind : header.kind ≡ kind
+  pub size : header.size ≡ n
+  pub data_offset : 4 * header.data_offset ≡ l
+
+-- A frame is its header of eight bytes, the extended header, the value and the payload. A protocol header has eight bytes.
+abbrev pub HasParts : List ℕ → Subject → (l m : ℕ) → Block → Type 0
+HasParts input (Frame kind) l m b = IsFrameOf input kind l b.len × (8 ≤ l) × IsTile 8 l b.extended × IsTile m b.len b.payload
+HasParts input (ProtocolHeader header) l m b = BeginsWithHeader input header × (b.len ≡ 8)
+HasParts input NoFrame l m b = Unit {0}
+HasParts input CutFrame l m b = Unit {0}
+HasParts input Section l m b = Unit {0}
+HasParts input Term l m b = Unit {0}
+HasParts input Rest l m b = Unit {0}
 
 -- The block has n bytes, and its value begins at the place l.
 abbrev pub HasValue : (l n : ℕ) → Block × ℕ → Type 0
@@ -47,15 +64,25 @@ HasValue l n found = (l ≤ found.1) × (found.1 ≤ n) × IsBlock NoFrame l fou
 abbrev pub HasBody : (l n : ℕ) → Block → Type 0
 HasBody l n b = (m : ℕ) × (l ≤ m) × (m ≤ n) × IsBlock NoFrame l m n b × IsTile m n b.payload
 
--- The block is of the first bytes of the input.
+-- The block is of the first bytes of the input, and has one if there is one.
 pub record BeginsInput (input : List ℕ) (b : Block) : Type 0 where
   pub from : ℕ
   pub to : ℕ
   pub order : from ≤ to
   pub ends : to ≤ b.len
   pub within : b.len ≤ length input
+  pub moves : 0 < length input → 0 < b.len
   pub is : IsBlock b.subject from to b.len b
-  pub tiled : IsTiled b.subject from to b
+  pub parts : HasParts input b.subject from to b
+
+-- What the input is read as.
+abbrev pub IsSourceOf : Form → Source → Type 0
+IsSourceOf form.Frames (source.Frames frames) = Unit {0}
+IsSourceOf form.Message (source.Message sections) = Unit {0}
+IsSourceOf form.Strict (source.Message sections) = Unit {0}
+IsSourceOf form.Term (source.Term term) = Unit {0}
+IsSourceOf (form.Type named) (source.Term term) = Unit {0}
+IsSourceOf _ _ = ⊥
 
 -- There is no block to come: there are no bytes, or more of them may come.
 abbrev pub IsAllTold : List ℕ → Bool → Type 0

@@ -9,10 +9,11 @@ use Rattle.amqp_blocks.specs.declared.outline.Next.{Next}
 use Rattle.amqp_blocks.specs.declared.outline.Next.TheVariants.{Part, Nothing, End}
 use Rattle.amqp_blocks.specs.Spans.{IsWithin, ComesBefore, Precedes}
 
--- The node ends at the place or behind it, in the input and in the node around it.
+-- The node ends at the place or behind it, in the input and in the node around it. A term that is in no other node has a byte.
 pub record IsFound (input : List ℕ) (at : ℕ) (around node : Node) : Type 0 where
   pub some : 0 < node.kind
   pub begins : at ≤ node.end
+  pub moves : around.kind ≡ 0 → at < node.end
   pub next : node.next ≤ node.end
   pub within : node.end ≤ length input
   pub inside : 0 < around.kind → node.end ≤ around.end
@@ -27,6 +28,7 @@ pub record IsMet (met : Met) : Type 0 where
 pub record IsMetAt (input : List ℕ) (at : ℕ) (around : Node) (met : Met) : Type 0 where
   pub is : IsMet met
   pub from : met.from ≡ at
+  pub moves : around.kind ≡ 0 → at < met.node.end
   pub within : met.node.end ≤ length input
   pub inside : 0 < around.kind → met.node.end ≤ around.end
 

@@ -1,5 +1,5 @@
 -- The places of the values of a term.
-use Rattle.std.specs.Prelude.{◌≡◌, ◌⊎◌, ℕ, ◌<◌, ◌≤◌, List}
+use Rattle.std.specs.Prelude.{◌⊎◌, ℕ, ◌<◌, ◌≤◌, List}
 use Rattle.std.specs.List.{All, AllPairs}
 use Rattle.amqp_blocks.specs.declared.entry.Entry.{Entry}
 

@@ -1,5 +1,5 @@
 //! What is told of a term: its values, one after another.
-use crate::described::Content;
+use amqp_descriptors::Content;
 use amqp_kinds::Kind;
 use amqp_lines::TypeName;
 use amqp_nodes::Node;

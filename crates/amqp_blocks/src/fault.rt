@@ -1,6 +1,7 @@
 //! Faults, each with its place and the path to it.
-ghost use Rattle.std.specs.Prelude.{◌≡◌, ◌+◌, ◌-◌, ◌<◌, ◌^◌, length, IfOk};
+ghost use Rattle.std.specs.Prelude.{◌≡◌, ◌+◌, ◌-◌, ◌<◌, ◌^◌, length, IfOk, IfSome};
 ghost use Rattle.amqp_frames.specs.FrameErrors.{place_of};
+ghost use Rattle.amqp_blocks.specs.Blocks.{StandsWithin};
 ghost use Rattle.amqp_blocks.specs.Faults.{IsVerdict, IsTermVerdict, EndsWithin};
 
 use crate::path::path_text;
@@ -142,6 +143,17 @@ pub(crate) enum Verdict {
     Value(usize),
     /// They begin with none, and this is why.
     Refused(Refusal),
+}
+
+/// Returns what is wrong if the value ends at the place, and bytes are left of the input, which has so many.
+pub(crate) fn bytes_left(end: usize, len: usize, alloc: Global) -> Option<Fault>
+    ensures { IfSome result (StandsWithin len) }
+{
+    if end < len {
+        Some(Fault::at(Cause::BytesLeft, end, alloc))
+    } else {
+        None
+    }
 }
 
 /// Reads the bytes as a value of type T.

@@ -7,7 +7,7 @@ ghost use Rattle.amqp_blocks.specs.Blocks.{BeginsInput, IsAllTold, IsBlock, HasB
 
 use crate::block::{Block, Subject, some_span};
 use crate::bounds::Bounds;
-use crate::fault::{Cause, Fault, Verdict, verdict_of};
+use crate::fault::{Cause, Fault, Verdict, bytes_left, verdict_of};
 use crate::message::{message_fault, sections_of};
 use crate::outline::{Outline, outline_at};
 use amqp_frames::{
@@ -280,10 +280,7 @@ fn sasl_fault(
         return Ok(Some(Fault::at(Cause::EmptySasl, at, alloc)));
     }
     match verdict_of::<SaslFrame>(body, &bounds.within(body), alloc) {
-        Verdict::Value(len) if len < body.len() => {
-            Ok(Some(Fault::at(Cause::BytesLeft, at.saturating_add(len), alloc)))
-        }
-        Verdict::Value(_) => Ok(None),
+        Verdict::Value(len) => Ok(bytes_left(at.saturating_add(len), bytes.len(), alloc)),
         Verdict::Refused(refusal) => Ok(Some(Fault::of_term(refusal, bytes, at, at, alloc)?)),
     }
 }

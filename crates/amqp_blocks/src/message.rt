@@ -6,7 +6,7 @@ ghost use Rattle.amqp_blocks.specs.Spans.{IsOutline};
 use crate::block::{Block, Subject};
 use crate::bounds::Bounds;
 use crate::entry::Entry;
-use crate::fault::{Cause, Fault, Verdict, verdict_of};
+use crate::fault::{Fault, Verdict, bytes_left, verdict_of};
 use crate::message_types::{AnyMessage, StrictMessage};
 use crate::outline::{Outline, add_outline, outline_at};
 use fe2o3_amqp_types::codec::{Deserialize, term_len};
@@ -111,11 +111,7 @@ fn fault_of<T: Deserialize>(
 {
     let message = bytes.get(from..).unwrap_or_default();
     match verdict_of::<T>(message, &bounds.within(message), alloc) {
-        Verdict::Value(len) if len < message.len() => {
-            let at = from.saturating_add(len);
-            Ok(Some(Fault::at(Cause::BytesLeft, at, alloc)))
-        }
-        Verdict::Value(_) => Ok(None),
+        Verdict::Value(len) => Ok(bytes_left(from.saturating_add(len), bytes.len(), alloc)),
         Verdict::Refused(refusal) => {
             let section = section_before(bytes, from, from.saturating_add(refusal.at));
             Ok(Some(Fault::of_term(refusal, bytes, from, section, alloc)?))

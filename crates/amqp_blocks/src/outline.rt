@@ -1,14 +1,14 @@
 //! The values in a term, one after another, each with its place, its depth and its name: what is printed of the term.
-ghost use Rattle.std.specs.Prelude.{◌≡◌, ◌≤◌, ◌+◌, ℕ, List, [], ◌∷◌, ◌++◌, length, IfOk, OnOk, IfSome, unwrap_or};
+ghost use Rattle.std.specs.Prelude.{◌≡◌, ◌≤◌, ◌<◌, ◌+◌, ℕ, List, [], ◌∷◌, ◌++◌, length, IfOk, OnOk, IfSome, unwrap_or};
 ghost use Rattle.amqp_blocks.specs.declared.entry.Entry.{Entry};
 ghost use Rattle.amqp_blocks.specs.declared.outline.Open.{Open};
 ghost use Rattle.amqp_blocks.specs.Spans.{IsOutline};
 ghost use Rattle.amqp_blocks.specs.Outlines.{IsMet, IsMetAt, IsInside, IfPart, Grows, Meets};
 
 use crate::broken::broken_node;
-use crate::defaults::default_of;
-use crate::described::{Content, content_of, field_names, type_of_descriptor};
+use crate::described::type_of_descriptor;
 use crate::entry::{Entry, Label, Shape};
+use amqp_descriptors::{Content, content_of, default_of, field_names};
 use amqp_kinds::{Kind, kind_of};
 use amqp_lines::TypeName;
 use amqp_nodes::{Node, next_node};
@@ -105,7 +105,7 @@ pub struct Outline {
 /// Returns the outline of the term that begins at the place.
 pub fn outline_at(input: &[u8], at: usize, alloc: Global) -> Result<Outline, AllocError>
     ensures outline { at ≤ length input.now → IfOk result (λ o. IsOutline at (unwrap_or o.end (length input.now)) o.entries.items) }
-    ensures ends { IfOk result (λ o. IfSome o.end (λ end. (at ≤ end) × (end ≤ length input.now))) }
+    ensures ends { IfOk result (λ o. IfSome o.end (λ end. (at < end) × (end ≤ length input.now))) }
 {
     let mut entries = Vec::new(alloc);
     let end = add_outline(input, at, &mut entries, alloc)?;
@@ -122,7 +122,7 @@ pub(crate) fn add_outline(
 ) -> Result<Option<usize>, AllocError>
     ensures outline { at ≤ length input.now → (l : ℕ) → l ≤ at → IsOutline l at entries.old.items
         → IfOk result (λ end. IsOutline l (unwrap_or end (length input.now)) entries.new.items) }
-    ensures ends { IfOk result (λ found. IfSome found (λ end. (at ≤ end) × (end ≤ length input.now))) }
+    ensures ends { IfOk result (λ found. IfSome found (λ end. (at < end) × (end ≤ length input.now))) }
 {
     match met_at(input, at, &Node::NOTHING) {
         None => Ok(None),
@@ -140,8 +140,8 @@ fn add_root(
     requires { IsMet root.now }
     ensures outline { root.now.node.end ≤ length input.now → (l : ℕ) → l ≤ root.now.from → IsOutline l root.now.from entries.old.items
         → IfOk result (λ end. IsOutline l (unwrap_or end (length input.now)) entries.new.items) }
-    ensures ends { root.now.node.end ≤ length input.now
-        → IfOk result (λ found. IfSome found (λ end. (root.now.from ≤ end) × (end ≤ length input.now))) }
+    ensures ends { root.now.from < root.now.node.end → root.now.node.end ≤ length input.now
+        → IfOk result (λ found. IfSome found (λ end. (root.now.from < end) × (end ≤ length input.now))) }
 {
     add_values(input, root, entries, alloc)?;
     Ok(root.end())

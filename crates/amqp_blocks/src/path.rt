@@ -1,6 +1,7 @@
 //! The path to a place in a term, in the names of fields, as `attach.source.filter["x"]`.
-use crate::described::{field_name, missing_field, name_of, type_at};
+use crate::described::type_at;
 use crate::value_text::write_value;
+use amqp_descriptors::{field_name, missing_field, name_of};
 use amqp_kinds::{Kind, kind_of};
 use amqp_lines::TypeName;
 use amqp_nodes::{Node, next_node};

@@ -1,13 +1,15 @@
 //! What the input is, and its blocks one after another.
-ghost use Rattle.std.specs.Prelude.{◌≡◌, ◌-◌, false, length, IfOk, IfSome, IfNone};
-ghost use Rattle.amqp_blocks.specs.Blocks.{BeginsInput, IsNext, IsAllTold};
+ghost use Rattle.std.specs.Prelude.{◌≡◌, ◌-◌, false, length, Some, IfOk, IfSome, IfNone};
+ghost use Rattle.amqp_blocks.specs.Blocks.{BeginsInput, IsNext, IsSourceOf, IsAllTold};
+ghost use Rattle.amqp_blocks.specs.declared.source.Form.{Form};
 
 use crate::block::Block;
 use crate::bounds::Bounds;
-use crate::described::{is_section, type_at};
+use crate::described::type_at;
 use crate::frames::Frames;
 use crate::message::Sections;
 use crate::term::Term;
+use amqp_descriptors::is_section;
 use amqp_lines::TypeName;
 use std::alloc::{AllocError, Global};
 
@@ -58,15 +60,27 @@ impl Source {
         alloc: Global,
     ) -> Result<Option<Source>, AllocError>
         ensures ahead { IfOk result (λ found. IfSome found (IsNext (length input.now))) }
+        ensures form { (form : Form) → options.now.form ≡ Some form → IfOk result (λ found. IfSome found (IsSourceOf form)) }
         ensures none { IfOk result (λ found. IfNone found (is_end ≡ false)) }
     {
-        let form = match options.form {
-            Some(form) => form,
-            None => match form_of(input, is_end) {
-                Some(form) => form,
-                None => return Ok(None),
-            },
+        let Some(form) = form_for(options.form, input, is_end) else {
+            return Ok(None);
         };
+        Source::of_form(form, options, input, is_end, alloc)
+    }
+
+    // An input of this form. It is `None` if more bytes are needed, since it has to be whole.
+    fn of_form(
+        form: Form,
+        options: &Options,
+        input: &[u8],
+        is_end: bool,
+        alloc: Global,
+    ) -> Result<Option<Source>, AllocError>
+        ensures form { IfOk result (λ found. IfSome found (IsSourceOf form)) }
+        ensures ahead { IfOk result (λ found. IfSome found (IsNext (length input.now))) }
+        ensures none { IfOk result (λ found. IfNone found (is_end ≡ false)) }
+    {
         let bounds = options.bounds;
         Ok(match form {
             Form::Frames => {
@@ -99,6 +113,17 @@ impl Source {
             Source::Message(sections) => sections.next_block(input, alloc),
             Source::Term(term) => term.next_block(input, alloc),
         }
+    }
+}
+
+// The form that is asked for, or else what the input seems to be.
+fn form_for(asked: Option<Form>, input: &[u8], is_end: bool) -> Option<Form>
+    ensures asked { IfSome asked (λ form. result ≡ Some form) }
+    ensures none { IfNone result (is_end ≡ false) }
+{
+    match asked {
+        Some(form) => Some(form),
+        None => form_of(input, is_end),
     }
 }
 

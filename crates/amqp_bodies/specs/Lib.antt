@@ -13,3 +13,8 @@ pub mod SomeReading
 pub mod Transposing
 pub mod StrippedBodies
 pub mod StrippedKinds
+pub mod SpelledBodies
+pub mod SpelledFaults
+pub mod SpelledReading
+pub mod NamedFaults
+pub mod ReadsAs

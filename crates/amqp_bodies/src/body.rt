@@ -6,6 +6,7 @@ ghost use Rattle.amqp_primitives.specs.Types.{binary_type};
 ghost use Rattle.amqp_sections.specs.SectionType.{section_of, section_agreement};
 ghost use Rattle.amqp_sections.specs.Sections.{data_naming, in_data, sequence_naming, in_sequence, value_naming, in_value};
 ghost use Rattle.amqp_batches.specs.RepeatedSections.{data_section, sequence_section};
+ghost use Rattle.amqp_bodies.specs.ReadsAs.{reads_itself};
 ghost use Rattle.amqp_bodies.specs.BodyRewriting.{NoBodyFollows};
 ghost use Rattle.amqp_bodies.specs.BodySections.{again_as_body, IsReadAsBody, IsSome, value_section, any_body_rewrites};
 ghost use Rattle.amqp_bodies.specs.BodySections.{empty_body, body_made, any_body_bound};
@@ -13,6 +14,10 @@ ghost use Rattle.amqp_codec.specs.TermReading.{reading_of};
 ghost use Rattle.amqp_bodies.specs.BodyReading.{body_reading};
 ghost use Rattle.amqp_bodies.specs.SeenReading.{seen_reading, seen_rewrites, seen_bound};
 ghost use Rattle.amqp_bodies.specs.BodyWriting.{body_writing};
+ghost use Rattle.amqp_bodies.specs.SpelledBodies.{IsBody};
+ghost use Rattle.amqp_bodies.specs.SpelledFaults.{IsBodyFault};
+ghost use Rattle.amqp_bodies.specs.SpelledReading.{any_body_is_read};
+ghost use Rattle.amqp_bodies.specs.NamedFaults.{any_body_named};
 ghost use Rattle.amqp_bodies.specs.EmptyBodies.{again_or_null, HasNoEmptyBatch, body_is_text};
 
 use crate::traits::{
@@ -116,12 +121,20 @@ impl<T: SerializeTerm> SerializableBody for Body<T> {}
 impl<T: DeserializeTerm> DeserializableBody for Body<T> {
     ghost group = { ⟦<Body<T> as Deserialize>⟧.reading };
 
+    ghost spells = { IsBody ⟦<AmqpValue<T> as DeserializeTerm>⟧.term ⟦<Data as DeserializeTerm>⟧.term ⟦<AmqpSequence<T> as DeserializeTerm>⟧.term };
+
+    ghost faults = { IsBodyFault ⟦<Data as DeserializeTerm>⟧.term ⟦<AmqpSequence<T> as DeserializeTerm>⟧.term };
+
     fn read_group<R: ByteSource>(
         decoder: &mut Decoder<R>,
         alloc: Global,
     ) -> Result<Body<T>, Error> {
         Body::deserialize(decoder, alloc)
     }
+
+    ghost is_read = { any_body_is_read ⟦<AmqpValue<T> as DeserializeTerm>⟧.term ⟦<Data as DeserializeTerm>⟧.term ⟦<AmqpSequence<T> as DeserializeTerm>⟧.term };
+
+    ghost is_named = { any_body_named ⟦<AmqpValue<T> as DeserializeTerm>⟧.term ⟦<Data as DeserializeTerm>⟧.term ⟦<AmqpSequence<T> as DeserializeTerm>⟧.term };
 }
 
 /// Returns `Empty`.
@@ -143,9 +156,7 @@ impl<T: DeserializeTerm> FromBody for Body<T> {
         Ok(body)
     }
 
-    fn read_body<R: ByteSource>(decoder: &mut Decoder<R>, alloc: Global) -> Result<Body<T>, Error> {
-        <Body<T> as DeserializableBody>::read_group(decoder, alloc)
-    }
+    ghost group_is = { reads_itself _ };
 
     ghost empty_is = { λ v h. h };
 

@@ -1,5 +1,8 @@
 //! Optional bodies of messages (Part 3, section 3.2).
+ghost use Rattle.amqp_bodies.specs.SpelledBodies.{IsThere};
 ghost use Rattle.amqp_bodies.specs.SomeReading.{some_reading};
+ghost use Rattle.amqp_bodies.specs.SpelledReading.{there_is_read};
+ghost use Rattle.amqp_bodies.specs.NamedFaults.{there_named};
 
 use crate::traits::{BodySection, DeserializableBody, FromBody, TransposeOption};
 use amqp_decoder::Decoder;
@@ -15,12 +18,20 @@ where
 {
     ghost group = { some_reading B.group };
 
+    ghost spells = { IsThere B.spells };
+
+    ghost faults = { B.faults };
+
     fn read_group<R: ByteSource>(
         decoder: &mut Decoder<R>,
         alloc: Global,
     ) -> Result<Option<B>, Error> {
         Ok(Some(B::read_group(decoder, alloc)?))
     }
+
+    ghost is_read = { there_is_read B.is_read };
+
+    ghost is_named = { there_named B.is_named };
 }
 
 /// It is `None` if there is no body, or nothing in it.
@@ -40,12 +51,7 @@ where
         <T::Body as TransposeOption<T>>::transpose(body, alloc)
     }
 
-    fn read_body<R: ByteSource>(
-        decoder: &mut Decoder<R>,
-        alloc: Global,
-    ) -> Result<<T::Body as TransposeOption<T>>::From, Error> {
-        <T::Body as TransposeOption<T>>::read_from(decoder, alloc)
-    }
+    ghost group_is = { T.Body.from_is };
 
     ghost empty_is = { T.Body.none_is };
 

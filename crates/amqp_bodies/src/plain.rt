@@ -1,19 +1,17 @@
 //! Values that are read from the body of a message (Part 3, section 3.2.8).
+ghost use Rattle.amqp_bodies.specs.ReadsAs.{reads_itself};
 ghost use Rattle.amqp_bodies.specs.Bodies.{no_value};
 ghost use Rattle.amqp_bodies.specs.BodySections.{plain_made};
 
-use crate::traits::{
-    DeserializableBody, FromBody, FromEmptyBody, PlainFromBody, ValueBody, ValueFromBody,
-};
+use crate::traits::{FromBody, FromEmptyBody, PlainFromBody, ValueBody, ValueFromBody};
 use amqp_codec::{DeserializeTerm, MapKey, Symbol};
 use amqp_containers::Array;
-use amqp_decoder::Decoder;
 use amqp_lazy::LazyValue;
 use amqp_maps::OrderedMap;
 use amqp_primitives::{Binary, Dec32, Dec64, Dec128, Timestamp, Uuid};
 use amqp_sections::AmqpValue;
 use amqp_values::Value;
-use amqp_wire::{ByteSource, Error};
+use amqp_wire::Error;
 use std::alloc::Global;
 use std::collections::BTreeMap;
 
@@ -46,12 +44,7 @@ impl<T: ValueFromBody> FromBody for T {
         Ok(body.0)
     }
 
-    fn read_body<R: ByteSource>(
-        decoder: &mut Decoder<R>,
-        alloc: Global,
-    ) -> Result<AmqpValue<T>, Error> {
-        <AmqpValue<T> as DeserializableBody>::read_group(decoder, alloc)
-    }
+    ghost group_is = { reads_itself _ };
 
     ghost empty_is = { λ v h. h };
 

@@ -10,6 +10,7 @@ ghost use Rattle.amqp_sections.specs.SectionType.{section_agreement};
 ghost use Rattle.amqp_sections.specs.Sections.{data_naming, in_data, sequence_naming, in_sequence};
 ghost use Rattle.amqp_batches.specs.Batches.{sections_in, batch_again};
 ghost use Rattle.amqp_batches.specs.RepeatedSections.{data_section, sequence_section};
+ghost use Rattle.amqp_bodies.specs.ReadsAs.{reads_itself};
 ghost use Rattle.amqp_bodies.specs.BodyTexts.{section_is_text, batch_is_text};
 ghost use Rattle.amqp_bodies.specs.NullBodies.{value_is_text};
 ghost use Rattle.amqp_codec.specs.TermReading.{reading_of};
@@ -17,6 +18,13 @@ ghost use Rattle.amqp_batches.specs.SectionGroups.{run_reading, group_bound};
 ghost use Rattle.amqp_bodies.specs.Bodies.{itself, section_made, no_value};
 ghost use Rattle.amqp_bodies.specs.BodySections.{value_made};
 ghost use Rattle.amqp_bodies.specs.SeenReading.{seen_reading, seen_bound};
+ghost use Rattle.amqp_batches.specs.Spellings.{IsTerm, IsSection, IsBatch};
+ghost use Rattle.amqp_batches.specs.SpellingFaults.{IsNoTerm, IsRunFault, IsSectionFault};
+ghost use Rattle.amqp_batches.specs.laws.ReadAs.{term_is_read};
+ghost use Rattle.amqp_batches.specs.laws.SpelledGroups.{batch_is_read, section_is_read};
+ghost use Rattle.amqp_batches.specs.laws.NamedAs.{term_named, batch_named, section_named};
+ghost use Rattle.amqp_bodies.specs.SpelledReading.{seen_is_read};
+ghost use Rattle.amqp_bodies.specs.NamedFaults.{seen_named};
 
 use crate::traits::{
     BodySection, CanonicalBody, DeserializableBody, FromBody, FromEmptyBody, SerializableBody,
@@ -65,16 +73,28 @@ impl<T: SerializableBody> SerializableBody for Rc<T> {}
 impl<T: DeserializeTerm> DeserializableBody for AmqpValue<T> {
     ghost group = { reading_of ⟦<AmqpValue<T> as DeserializeTerm>⟧.term };
 
+    ghost spells = { IsTerm ⟦<AmqpValue<T> as DeserializeTerm>⟧.term };
+
+    ghost faults = { IsNoTerm };
+
     fn read_group<R: ByteSource>(
         decoder: &mut Decoder<R>,
         alloc: Global,
     ) -> Result<AmqpValue<T>, Error> {
         AmqpValue::read_value(decoder, alloc)
     }
+
+    ghost is_read = { term_is_read ⟦<AmqpValue<T> as DeserializeTerm>⟧.term };
+
+    ghost is_named = { term_named ⟦<AmqpValue<T> as DeserializeTerm>⟧.term };
 }
 
 impl<T: DeserializeTerm> DeserializableBody for AmqpSequence<T> {
     ghost group = { reading_of ⟦<AmqpSequence<T> as DeserializeTerm>⟧.term };
+
+    ghost spells = { IsTerm ⟦<AmqpSequence<T> as DeserializeTerm>⟧.term };
+
+    ghost faults = { IsNoTerm };
 
     fn read_group<R: ByteSource>(
         decoder: &mut Decoder<R>,
@@ -82,18 +102,34 @@ impl<T: DeserializeTerm> DeserializableBody for AmqpSequence<T> {
     ) -> Result<AmqpSequence<T>, Error> {
         AmqpSequence::read_value(decoder, alloc)
     }
+
+    ghost is_read = { term_is_read ⟦<AmqpSequence<T> as DeserializeTerm>⟧.term };
+
+    ghost is_named = { term_named ⟦<AmqpSequence<T> as DeserializeTerm>⟧.term };
 }
 
 impl DeserializableBody for Data {
     ghost group = { reading_of ⟦<Data as DeserializeTerm>⟧.term };
 
+    ghost spells = { IsTerm ⟦<Data as DeserializeTerm>⟧.term };
+
+    ghost faults = { IsNoTerm };
+
     fn read_group<R: ByteSource>(decoder: &mut Decoder<R>, alloc: Global) -> Result<Data, Error> {
         Data::read_value(decoder, alloc)
     }
+
+    ghost is_read = { term_is_read ⟦<Data as DeserializeTerm>⟧.term };
+
+    ghost is_named = { term_named ⟦<Data as DeserializeTerm>⟧.term };
 }
 
 impl<T: BatchItem + DeserializeTerm> DeserializableBody for TransparentVec<T> {
     ghost group = { seen_reading (run_reading T.code ⟦<TransparentVec<T> as Deserialize>⟧.reading) };
+
+    ghost spells = { IsSection T.code (IsBatch T.code (IsTerm T.term)) };
+
+    ghost faults = { IsSectionFault T.code (IsRunFault T.code T.term) };
 
     fn read_group<R: ByteSource>(
         decoder: &mut Decoder<R>,
@@ -104,6 +140,10 @@ impl<T: BatchItem + DeserializeTerm> DeserializableBody for TransparentVec<T> {
         }
         Batch::deserialize(decoder, alloc)
     }
+
+    ghost is_read = { seen_is_read (section_is_read T.code (batch_is_read T.code T.term)) };
+
+    ghost is_named = { seen_named (section_named T.code (batch_named T.code T.term)) };
 }
 
 impl<T: FromEmptyBody> FromEmptyBody for AmqpValue<T> {
@@ -150,12 +190,7 @@ impl<T: DeserializeTerm + FromEmptyBody> FromBody for AmqpValue<T> {
         Ok(body)
     }
 
-    fn read_body<R: ByteSource>(
-        decoder: &mut Decoder<R>,
-        alloc: Global,
-    ) -> Result<AmqpValue<T>, Error> {
-        <AmqpValue<T> as DeserializableBody>::read_group(decoder, alloc)
-    }
+    ghost group_is = { reads_itself _ };
 
     ghost empty_is = { λ v h. h };
 
@@ -171,12 +206,7 @@ impl<T: DeserializeTerm> FromBody for AmqpSequence<T> {
         Ok(body)
     }
 
-    fn read_body<R: ByteSource>(
-        decoder: &mut Decoder<R>,
-        alloc: Global,
-    ) -> Result<AmqpSequence<T>, Error> {
-        <AmqpSequence<T> as DeserializableBody>::read_group(decoder, alloc)
-    }
+    ghost group_is = { reads_itself _ };
 
     ghost empty_is = { λ v h. h };
 
@@ -192,9 +222,7 @@ impl FromBody for Data {
         Ok(body)
     }
 
-    fn read_body<R: ByteSource>(decoder: &mut Decoder<R>, alloc: Global) -> Result<Data, Error> {
-        <Data as DeserializableBody>::read_group(decoder, alloc)
-    }
+    ghost group_is = { reads_itself _ };
 
     ghost empty_is = { λ v h. h };
 
@@ -211,12 +239,7 @@ impl<T: BatchItem + DeserializeTerm> FromBody for TransparentVec<T> {
         Ok(body)
     }
 
-    fn read_body<R: ByteSource>(
-        decoder: &mut Decoder<R>,
-        alloc: Global,
-    ) -> Result<TransparentVec<T>, Error> {
-        <TransparentVec<T> as DeserializableBody>::read_group(decoder, alloc)
-    }
+    ghost group_is = { reads_itself _ };
 
     ghost empty_is = { λ v h. h };
 

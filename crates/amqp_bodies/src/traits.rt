@@ -8,6 +8,12 @@ ghost use Rattle.amqp_wire.specs.declared.error.Error.TheVariants.{Memory, Empty
 ghost use Rattle.amqp_decoder.specs.Places.{AnswersAt};
 ghost use Rattle.amqp_decoder.specs.Steps.{Tries};
 ghost use Rattle.amqp_codec.specs.Reading.{Reading};
+ghost use Rattle.amqp_batches.specs.Spellings.{Spells};
+ghost use Rattle.amqp_batches.specs.SpellingFaults.{Faults};
+ghost use Rattle.amqp_batches.specs.laws.ReadAs.{IsReadAs};
+ghost use Rattle.amqp_batches.specs.laws.NamedAs.{IsNamedAs};
+ghost use Rattle.amqp_bodies.specs.ReadsAs.{ReadsAs};
+ghost use Rattle.amqp_bodies.specs.SomeReading.{some_reading};
 ghost use Rattle.amqp_bodies.specs.Bodies.{Empties, Made};
 
 use amqp_codec::{DeserializeTerm, Serialize, SerializeTerm};
@@ -56,11 +62,21 @@ pub trait DeserializableBody: BodySection + Sized + Drop {
     // How a group of its sections is read, if a section of a body comes next.
     ghost group: { Reading Self };
 
+    // Which bytes spell such a group, and what is wrong with those that begin with none.
+    ghost spells: { Spells Self };
+
+    ghost faults: { Faults };
+
     /// Reads a group of its sections, if a section of a body comes next: one section, or those of one kind that come one after another. It
     /// returns `WrongDescriptor` for another section, and otherwise the errors of a section.
     fn read_group<R: ByteSource>(decoder: &mut Decoder<R>, alloc: Global) -> Result<Self, Error>
         ensures read { Tells R.remaining → AnswersAt group.takes_memory group.reads group.fault decoder.old result decoder.new }
         ensures tries { Tries group.takes_memory decoder.old result decoder.new };
+
+    // What is read is what the bytes spell, and the fault that is reported is theirs.
+    ghost is_read: { IsReadAs group spells };
+
+    ghost is_named: { IsNamedAs group faults };
 }
 
 /// What takes the place of the body of a message that has none.
@@ -87,14 +103,8 @@ pub trait FromBody: FromEmptyBody + Drop {
         ensures value { IfOk result (λ v. made.of_body body v) }
         ensures memory { IfErr result (λ e. e ≡ Memory) };
 
-    /// Reads a group of sections of the body, if a section of a body comes next, as the body's type does.
-    fn read_body<R: ByteSource>(
-        decoder: &mut Decoder<R>,
-        alloc: Global,
-    ) -> Result<Self::Body, Error>
-        ensures read { Tells R.remaining → AnswersAt made.group.takes_memory made.group.reads made.group.fault decoder.old result
-            decoder.new }
-        ensures tries { Tries made.group.takes_memory decoder.old result decoder.new };
+    // It is read as its type says.
+    ghost group_is: { ReadsAs made.group Self.Body.group };
 
     // The values that take the place of an absent body are those that `from_empty_body` states.
     ghost empty_is: { (v : Self) → Self.FromEmptyBody.empties.is v → made.empty v };
@@ -116,14 +126,8 @@ pub trait TransposeOption<To: FromBody>: BodySection + Sized {
         ensures value { IfOk result (λ v. transposed.of_body src v) }
         ensures memory { IfErr result (λ e. e ≡ Memory) };
 
-    /// Reads a group of sections of the body, if a section of a body comes next, as `DeserializableBody::read_group` does.
-    fn read_from<R: ByteSource>(
-        decoder: &mut Decoder<R>,
-        alloc: Global,
-    ) -> Result<Self::From, Error>
-        ensures read { Tells R.remaining → AnswersAt transposed.group.takes_memory transposed.group.reads transposed.group.fault
-            decoder.old result decoder.new }
-        ensures tries { Tries transposed.group.takes_memory decoder.old result decoder.new };
+    // It is read as its type says.
+    ghost from_is: { ReadsAs transposed.group Self.From.group };
 
     // What takes the place of an absent body is `None`.
     ghost none_is: { (v : Option To) → v ≡ None → transposed.empty v };
@@ -140,14 +144,8 @@ pub trait EmptyIsNothing: DeserializableBody + FromBody<Body = Self> {
     fn unless_empty(self) -> Option<Self>
         ensures { optional.of_body (Some self) result };
 
-    /// Reads a group of its sections, if a section of a body comes next.
-    fn read_optional<R: ByteSource>(
-        decoder: &mut Decoder<R>,
-        alloc: Global,
-    ) -> Result<Option<Self>, Error>
-        ensures read { Tells R.remaining → AnswersAt optional.group.takes_memory optional.group.reads optional.group.fault decoder.old
-            result decoder.new }
-        ensures tries { Tries optional.group.takes_memory decoder.old result decoder.new };
+    // It is read as itself, where it is there.
+    ghost optional_is: { ReadsAs optional.group (some_reading Self.group) };
 
     // An absent body is made of an absent one, and takes its place.
     ghost of_none: { optional.of_body None None };

@@ -5,6 +5,7 @@ ghost use Rattle.amqp_wire.specs.declared.error.Error.TheVariants.{Memory};
 ghost use Rattle.amqp_batches.specs.laws.Bound.{term_bound};
 ghost use Rattle.amqp_batches.specs.Batches.{sections_in};
 ghost use Rattle.amqp_batches.specs.SectionGroups.{group_bound};
+ghost use Rattle.amqp_bodies.specs.ReadsAs.{reads_itself};
 ghost use Rattle.amqp_bodies.specs.Bodies.{section_made};
 ghost use Rattle.amqp_bodies.specs.BodySections.{any_body_bound};
 ghost use Rattle.amqp_bodies.specs.SeenReading.{seen_bound};
@@ -14,14 +15,11 @@ ghost use Rattle.amqp_bodies.specs.StrippedBodies.{data_stripped, data_batch_str
 ghost use Rattle.amqp_bodies.specs.StrippedKinds.{body_stripped};
 
 use crate::body::Body;
-use crate::traits::{
-    DeserializableBody, EmptyIsNothing, FromBody, FromEmptyBody, TransposeOption, ValueFromBody,
-};
+use crate::traits::{EmptyIsNothing, FromBody, FromEmptyBody, TransposeOption, ValueFromBody};
 use amqp_batches::{Batch, TransparentVec};
 use amqp_codec::{Deserialize, DeserializeTerm};
-use amqp_decoder::Decoder;
 use amqp_sections::{AmqpSequence, AmqpValue, Data};
-use amqp_wire::{ByteSource, Error};
+use amqp_wire::Error;
 use std::alloc::Global;
 
 // The items, or none if one of them is absent.
@@ -80,12 +78,7 @@ impl<T: ValueFromBody> TransposeOption<T> for AmqpValue<T> {
         }
     }
 
-    fn read_from<R: ByteSource>(
-        decoder: &mut Decoder<R>,
-        alloc: Global,
-    ) -> Result<Option<AmqpValue<Option<T>>>, Error> {
-        <Option<AmqpValue<Option<T>>> as DeserializableBody>::read_group(decoder, alloc)
-    }
+    ghost from_is = { reads_itself _ };
 
     ghost none_is = { λ v h. h };
 
@@ -109,12 +102,7 @@ impl<T: DeserializeTerm + FromEmptyBody> TransposeOption<AmqpValue<T>> for AmqpV
         }
     }
 
-    fn read_from<R: ByteSource>(
-        decoder: &mut Decoder<R>,
-        alloc: Global,
-    ) -> Result<Option<AmqpValue<Option<T>>>, Error> {
-        <Option<AmqpValue<Option<T>>> as DeserializableBody>::read_group(decoder, alloc)
-    }
+    ghost from_is = { reads_itself _ };
 
     ghost none_is = { λ v h. h };
 
@@ -146,12 +134,7 @@ impl<T: DeserializeTerm> TransposeOption<AmqpSequence<T>> for AmqpSequence<T> {
         }
     }
 
-    fn read_from<R: ByteSource>(
-        decoder: &mut Decoder<R>,
-        alloc: Global,
-    ) -> Result<Option<AmqpSequence<Option<T>>>, Error> {
-        <Option<AmqpSequence<Option<T>>> as DeserializableBody>::read_group(decoder, alloc)
-    }
+    ghost from_is = { reads_itself _ };
 
     ghost none_is = { λ v h. h };
 
@@ -177,14 +160,7 @@ impl<T: DeserializeTerm> TransposeOption<TransparentVec<AmqpSequence<T>>>
         }
     }
 
-    fn read_from<R: ByteSource>(
-        decoder: &mut Decoder<R>,
-        alloc: Global,
-    ) -> Result<Option<TransparentVec<AmqpSequence<Option<T>>>>, Error> {
-        <Option<TransparentVec<AmqpSequence<Option<T>>>> as DeserializableBody>::read_group(
-            decoder, alloc,
-        )
-    }
+    ghost from_is = { reads_itself _ };
 
     ghost none_is = { λ v h. h };
 
@@ -203,12 +179,7 @@ impl EmptyIsNothing for Data {
         Some(self)
     }
 
-    fn read_optional<R: ByteSource>(
-        decoder: &mut Decoder<R>,
-        alloc: Global,
-    ) -> Result<Option<Data>, Error> {
-        <Option<Data> as DeserializableBody>::read_group(decoder, alloc)
-    }
+    ghost optional_is = { reads_itself _ };
 
     ghost of_none = { tt };
 
@@ -235,12 +206,7 @@ impl TransposeOption<TransparentVec<Data>> for TransparentVec<Data> {
         }
     }
 
-    fn read_from<R: ByteSource>(
-        decoder: &mut Decoder<R>,
-        alloc: Global,
-    ) -> Result<Option<TransparentVec<Data>>, Error> {
-        <Option<TransparentVec<Data>> as DeserializableBody>::read_group(decoder, alloc)
-    }
+    ghost from_is = { reads_itself _ };
 
     ghost none_is = { λ v h. h };
 
@@ -260,12 +226,7 @@ impl<T: EmptyIsNothing> TransposeOption<T> for T {
         }
     }
 
-    fn read_from<R: ByteSource>(
-        decoder: &mut Decoder<R>,
-        alloc: Global,
-    ) -> Result<Option<T>, Error> {
-        T::read_optional(decoder, alloc)
-    }
+    ghost from_is = { T.optional_is };
 
     ghost none_is = { T.none_is };
 
@@ -296,12 +257,7 @@ impl<T: DeserializeTerm> TransposeOption<Body<T>> for Body<T> {
         }
     }
 
-    fn read_from<R: ByteSource>(
-        decoder: &mut Decoder<R>,
-        alloc: Global,
-    ) -> Result<Body<Option<T>>, Error> {
-        <Body<Option<T>> as DeserializableBody>::read_group(decoder, alloc)
-    }
+    ghost from_is = { reads_itself _ };
 
     ghost none_is = { λ v h. h };
 

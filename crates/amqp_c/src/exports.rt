@@ -10,13 +10,14 @@ ghost use Rattle.amqp_c.specs.Nodes.{TellsNode};
 ghost use Rattle.amqp_c.specs.Fields.{TellsField};
 ghost use Rattle.amqp_c.specs.Rewriting.{IsNumberOf, Reads, Rewrites, Written};
 
-use crate::descriptors::{field_name, type_of_code};
 use crate::errors::name_of_number;
+use crate::field_names::field_name;
 use crate::limits::GivenLimits;
 use crate::outcome::{DONE, FULL, Outcome};
 use crate::path::{PathNode, tell_path};
 use crate::rewriting::{canonical_into, value_len};
 use crate::room::put;
+use amqp_descriptors::type_of_code;
 use amqp_lines::TypeName;
 use amqp_nodes::{Node, field_node, next_node};
 use fe2o3_amqp_types::codec::term_len_located;

@@ -3,9 +3,9 @@
 //! pointer or allocates for its caller.
 #![tactic(auto)]
 
-mod descriptors;
 mod errors;
 mod exports;
+mod field_names;
 mod limits;
 mod outcome;
 mod path;

@@ -5,7 +5,7 @@ ghost use Rattle.amqp_model.specs.Spelling.{Names};
 ghost use Rattle.amqp_lengths.specs.Fronts.{IsFront, NoFront};
 ghost use Rattle.amqp_c.specs.Paths.{container_number, told_within, told_piece, told_node, IsMarkOf, IsTypeAt, IsTypeAround, IsTypeHere, TellsPath};
 
-use crate::descriptors::type_of_code;
+use amqp_descriptors::type_of_code;
 use amqp_paths::{ContainerKind, Node, Piece, path_of};
 use amqp_wire::format_code;
 

@@ -1,5 +1,5 @@
 -- Constructors, and the arrays whose items share them.
-use Rattle.std.proofs.Common.{◌≡◌, ◌≤◌, ℕ, ◌+◌, ◌⊎◌, inl, inr, Bool, true, false, not, eqb, leb, ◌↔◌, IsTrue, None, List, [], ◌∷◌, ◌++◌}
+use Rattle.std.proofs.Common.{◌<◌, ◌≡◌, ◌≤◌, ℕ, ◌+◌, ◌⊎◌, inl, inr, Bool, true, false, not, eqb, leb, ◌↔◌, IsTrue, None, List, [], ◌∷◌, ◌++◌}
 use Rattle.std.proofs.Common.{suc, length, drop, map, get_or, refl, sym, ap, ◌∙◌, subst, arith, append_assoc, length-append}
 use Rattle.std.proofs.lemmas.Bool.{eqb-true, leb-true, le-leb, or_cases, or_right}
 use Rattle.std.proofs.lemmas.List.{drop_at, map-append}
@@ -174,23 +174,23 @@ not_marked st (d ∷ ds) c own whole rest x z m new e (first, second, is_rest, (
 
 pub constructor_not : (st : State) (e : Error) (ds : List Descriptor) (c : ℕ) (new : State) → ConstructorFault st e
     → TakesConstructor st ds c new → ⊥
-constructor_not st e ds c new (no_code gs own m marks t l) h =
+constructor_not st e ds c new (no_code gs own m few marks t l) h =
     let r = marks_behind gs ds c own h.own (drop (length own) st.rest) (drop (length h.own) st.rest) marks h.spelled
     (sym t.rest ∙ h.took.rest) in
     let v = (took_parts st new own r.rest (subst (λ s. Takes st s new) r.is h.took)).1 in
     not_lacking 1 (after_data (length own) st) e r.rest (drop (length r.rest) (drop (length own) st.rest))
     (subst (λ (z : State). Lacks 1 z e) t.moved l) (constructor_long r.others c r.rest r.spelled) v.room v.rest
-constructor_not st e ds c new (no_mark gs m t f) h =
+constructor_not st e ds c new (no_mark gs m few t f) h =
     let r = code_behind st gs ds c 0 m new t h in
     not_marked st r.others c t.own h.own r.rest (drop (length h.own) st.rest) (drop (length (t.own ++ (0 ∷ []))) st.rest) m new e r.spelled
     t.took h.took r.is r.tail f
-constructor_not st e ds c new (too_many gs m t many is) h =
+constructor_not st e ds c new (too_many gs m many t is) h =
     let r = code_behind st gs ds c 0 m new t h in
     elim (begins r.others c 0 r.rest (drop (length (t.own ++ (0 ∷ []))) st.rest) (drop (length h.own) st.rest) r.spelled r.tail) [
       | inl x ↦ subst (λ n. IsKnown (format n)) (sym x.0) x.1
       | inr x ↦ let few = h.few in let n = r.count in omega (arith, few, n, many, x.1)
     ]
-constructor_not st e ds c new (no_known_code gs k m t some never is) h =
+constructor_not st e ds c new (no_known_code gs k m few t some never is) h =
     let r = code_behind st gs ds c k m new t h in
     elim (begins r.others c k r.rest (drop (length (t.own ++ (k ∷ []))) st.rest) (drop (length h.own) st.rest) r.spelled r.tail) [
       | inl x ↦ never (subst (λ n. IsKnown (format n)) (sym x.0) x.1)
@@ -246,34 +246,36 @@ constructor_took st ds c m new few some t (known, same) =
 -- why none is taken
 pub stopped_first : (st : State) (e : Error) (new : State) → StopsAt true (Here (Lacks 1) st) st e new
     → StopsAt true (At constructor_left st) st e new
-stopped_first st e new s = stops_as {st = st} (λ f h. (no_code [] [] st refl (took_none st) h.0, h.1)) s
+stopped_first st e new s = stops_as {st = st} (λ f h. (no_code [] [] st (omega arith) refl (took_none st) h.0, h.1)) s
 
 took_failed : (st m : State) (s : List ℕ) → Takes st s m → m.failed ≡ st.failed
 took_failed st m s t = ap (λ (z : State). z.failed) t.moved
 
-pub stopped_code : (st : State) (ds : List Descriptor) (m : State) (e : Error) (new : State) → TookNamed st ds m
+pub stopped_code : (st : State) (ds : List Descriptor) (m : State) (e : Error) (new : State) → length ds ≤ 128 → TookNamed st ds m
     → StopsAt true (Here (Lacks 1) m) m e new → StopsAt true (At constructor_left st) st e new
-stopped_code st ds m e new t s =
-    stops_later {st = st} {m = m} (took_failed st m t.own t.took) (λ f h. (no_code ds t.own m t.marks t.took h.0, h.1)) s
+stopped_code st ds m e new few t s =
+    stops_later {st = st} {m = m} (took_failed st m t.own t.took) (λ f h. (no_code ds t.own m few t.marks t.took h.0, h.1)) s
 
-marked_fault : (st : State) (ds : List Descriptor) (n : ℕ) (m : State) (f : Located) → n ≡ length ds → TakesMarks st ds 0 m → NoMarked n m f
+marked_fault : (st : State) (ds : List Descriptor) (n : ℕ) (m : State) (f : Located) → n ≡ length ds → n ≤ 128 → TakesMarks st ds 0 m
+    → NoMarked n m f
     → At constructor_left st f
-marked_fault st ds n m f is t (inl z) = (too_many ds m t (omega (arith, is, z.1)) z.0, z.2)
-marked_fault st ds n m f is t (inr z) = (no_mark ds m t z.0, z.1)
+marked_fault st ds n m f is most t (inl z) = (too_many ds m (let many = z.1 in omega (arith, is, most, many)) t z.0, z.2)
+marked_fault st ds n m f is most t (inr z) = (no_mark ds m (let few = z.0 in omega (arith, is, few)) t z.1.0, z.1.1)
 
-pub stopped_mark : (st : State) (ds : List Descriptor) (n : ℕ) (m : State) (e : Error) (new : State) → n ≡ length ds → TakesMarks st ds 0 m
+pub stopped_mark : (st : State) (ds : List Descriptor) (n : ℕ) (m : State) (e : Error) (new : State) → n ≡ length ds → n ≤ 128
+    → TakesMarks st ds 0 m
     → StopsAt true (NoMarked n m) m e new → StopsAt true (At constructor_left st) st e new
-stopped_mark st ds n m e new is t s =
-    stops_later {st = st} {m = m} (took_failed st m (t.own ++ (0 ∷ [])) t.took) (λ f h. marked_fault st ds n m f is t h) s
+stopped_mark st ds n m e new is most t s =
+    stops_later {st = st} {m = m} (took_failed st m (t.own ++ (0 ∷ [])) t.took) (λ f h. marked_fault st ds n m f is most t h) s
 
-pub stopped_unknown : (st : State) (ds : List Descriptor) (c : ℕ) (m : State) (e : Error) (new : State) → TakesMarks st ds c m
+pub stopped_unknown : (st : State) (ds : List Descriptor) (c : ℕ) (m : State) (e : Error) (new : State) → length ds ≤ 128 → TakesMarks st ds c m
     → (c ≡ 0 → ⊥) × (IsKnown (format c) → ⊥) × (e ≡ refusal_of c) × Answers m e new → StandsBefore (suc (length m.rest)) m new
     → StopsAt true (At constructor_left st) st e new
-stopped_unknown st ds c m e new t (some, never, is, kept) p = record {
+stopped_unknown st ds c m e new few t (some, never, is, kept) p = record {
   kept = answered_took t.took kept;
   why = inr (
     suc (length m.rest),
-    (no_known_code ds c m t some never is, refl),
+    (no_known_code ds c m few t some never is, refl),
     before_later st m (suc (length m.rest)) new (took_failed st m (t.own ++ (c ∷ [])) t.took) p,
   );
 }
@@ -285,10 +287,10 @@ more_named st l l' m new none t (d, u, is) =
     subst (λ ds. TookNamed st ds new) (sym (map-append descriptor_of l (d ∷ [])) ∙ ap (map descriptor_of) (sym is))
     (named_behind st (map descriptor_of l) m (descriptor_of d) new none t u)
 
-pub stopped_descriptor : (st : State) (n : ℕ) (e : Error) (new : State) → MissesDescriptor true st e new
+pub stopped_descriptor : (st : State) (n : ℕ) (e : Error) (new : State) → n < 128 → MissesDescriptor true st e new
     → IsPlaceOf new.source.fault st → StopsAt true (NoMarked n st) st e new
-stopped_descriptor st n e new f p =
-    record { kept = f.kept; why = elim f.why [ inl x ↦ inl x | inr (none, x) ↦ inr (length st.rest, inr (x, refl), p) ] }
+stopped_descriptor st n e new few f p =
+    record { kept = f.kept; why = elim f.why [ inl x ↦ inl x | inr (none, x) ↦ inr (length st.rest, inr (few, (x, refl)), p) ] }
 
 -- a descriptor more than may stand
 pub stopped_many : (st : State) (n : ℕ) (e : Error) (new : State) → 128 ≤ n → e ≡ Depth → new ≡ refused_at Depth new.source.fault st

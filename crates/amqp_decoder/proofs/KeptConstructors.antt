@@ -1,5 +1,5 @@
 -- Constructors that are taken and kept.
-use Rattle.std.proofs.Common.{◌≡◌, ◌≤◌, ℕ, ◌+◌, ◌⊎◌, inl, inr, arith, true, Some, List, [], ◌∷◌, ◌++◌, suc, length, refl, sym, ap, ◌∙◌, subst}
+use Rattle.std.proofs.Common.{◌<◌, ◌≡◌, ◌≤◌, ℕ, ◌+◌, ◌⊎◌, inl, inr, arith, true, Some, List, [], ◌∷◌, ◌++◌, suc, length, refl, sym, ap, ◌∙◌, subst}
 use Rattle.std.proofs.Common.{append_assoc, length-append}
 use Rattle.std.specs.Int.{bytes_high_first, w8, w64, from_be_bytes}
 use Rattle.amqp_model.specs.Term.{Descriptor, name, code, symbol}
@@ -144,18 +144,20 @@ constructor_kept n c a b st m new few some h (known, same) =
 pub unmarked_deep : (n : ℕ) (a b : List ℕ) (st m : State) (e : Error) (new : State) → n ≡ 128 → Keeps (IsMarked n 0) a st b m → e ≡ Depth
     → new ≡ refused_at Depth new.source.fault m → StandsBefore (suc (length m.rest)) m new → StopsAt true (At constructor_left st) st e new
 unmarked_deep n a b st m e new many h is kept p =
-    stopped_mark st h.is.0 n m e new (sym h.is.1) (marked_took n 0 a b st m h) (stopped_many m n e new (omega arith) is kept p)
+    stopped_mark st h.is.0 n m e new (sym h.is.1) (omega (arith, many)) (marked_took n 0 a b st m h)
+    (stopped_many m n e new (omega (arith, many)) is kept p)
 
-pub unmarked_name : (n : ℕ) (a b : List ℕ) (st m : State) (e : Error) (new : State) → Keeps (IsMarked n 0) a st b m
+pub unmarked_name : (n : ℕ) (a b : List ℕ) (st m : State) (e : Error) (new : State) → n < 128 → Keeps (IsMarked n 0) a st b m
     → StopsAt true (Here DescriptorFault m) m e new → StopsAt true (At constructor_left st) st e new
-unmarked_name n a b st m e new h s =
-    stopped_mark st h.is.0 n m e new (sym h.is.1) (marked_took n 0 a b st m h) (stops_as {st = m} (λ f x. inr x) s)
+unmarked_name n a b st m e new few h s =
+    stopped_mark st h.is.0 n m e new (sym h.is.1) (omega (arith, few)) (marked_took n 0 a b st m h) (stops_as {st = m} (λ f x. inr (few, x)) s)
 
-pub unmarked_code : (n : ℕ) (a b : List ℕ) (st m : State) (e : Error) (new : State) → Keeps (IsNamed n) a st b m
+pub unmarked_code : (n : ℕ) (a b : List ℕ) (st m : State) (e : Error) (new : State) → n ≤ 128 → Keeps (IsNamed n) a st b m
     → StopsAt true (Here (Lacks 1) m) m e new → StopsAt true (At constructor_left st) st e new
-unmarked_code n a b st m e new h s = stopped_code st h.is.0 m e new (named_took n a b st m h) s
+unmarked_code n a b st m e new few h s = stopped_code st h.is.0 m e new (let is = h.is.1 in omega (arith, few, is)) (named_took n a b st m h) s
 
-pub unmarked_unknown : (n c : ℕ) (a b : List ℕ) (st m : State) (e : Error) (new : State) → Keeps (IsMarked n c) a st b m
+pub unmarked_unknown : (n c : ℕ) (a b : List ℕ) (st m : State) (e : Error) (new : State) → n ≤ 128 → Keeps (IsMarked n c) a st b m
     → (c ≡ 0 → ⊥) × (IsKnown (format c) → ⊥) × (e ≡ refusal_of c) × Answers m e new → StandsBefore (suc (length m.rest)) m new
     → StopsAt true (At constructor_left st) st e new
-unmarked_unknown n c a b st m e new h s p = stopped_unknown st h.is.0 c m e new (marked_took n c a b st m h) s p
+unmarked_unknown n c a b st m e new few h s p =
+    stopped_unknown st h.is.0 c m e new (let is = h.is.1 in omega (arith, few, is)) (marked_took n c a b st m h) s p

@@ -149,10 +149,10 @@ open_described_not_outside out st (not_open f) = described_not_outside out st f
 open_described_not_outside out st (nameless {m} g none f) = descriptor_not_outside out m f
 
 constructor_not_outside : {e : Error} → IsOutside e → (st : State) → ConstructorFault st e → ⊥
-constructor_not_outside out st (arrays.no_code ds own m marks t l) = lacks_not_outside out 1 m l
-constructor_not_outside out st (no_mark ds m t f) = descriptor_not_outside out m f
-constructor_not_outside out st (too_many ds m t many is) = subst IsOutside is out
-constructor_not_outside out st (no_known_code ds c m t some never is) = refusal_not_outside out c is
+constructor_not_outside out st (arrays.no_code ds own m few marks t l) = lacks_not_outside out 1 m l
+constructor_not_outside out st (no_mark ds m few t f) = descriptor_not_outside out m f
+constructor_not_outside out st (too_many ds m many t is) = subst IsOutside is out
+constructor_not_outside out st (no_known_code ds c m few t some never is) = refusal_not_outside out c is
 
 shares_not_outside : {e : Error} → IsOutside e → (n : ℕ) (st : State) → SharesFault n st e → ⊥
 shares_not_outside out n st (no_constructor f) = constructor_not_outside out st f
@@ -166,7 +166,7 @@ open_items_not_outside out w st (arrays.too_deep n content m h deep is) = depth_
 
 enter_array_not_outside : {e : Error} → IsOutside e → (w : ℕ) (st : State) → EnterArrayFault w st e → ⊥
 enter_array_not_outside out w st (no_items_opened f) = open_items_not_outside out w st f
-enter_array_not_outside out w st (no_start n content m h some f) = shares_not_outside out n (in_container InArray 0 content m) f
+enter_array_not_outside out w st (no_start n content m h room some f) = shares_not_outside out n (in_container InArray 0 content m) f
 
 pub array_not_outside : {e : Error} → IsOutside e → (st : State) → ArrayFault st e → ⊥
 array_not_outside out st (arrays.not_begun f) = begin_not_outside out st f

@@ -95,7 +95,7 @@ enters_not w st n st' e (no_items_opened (no_room i k m h full)) d =
     let s = header_same false w st n d.content i k d.mid m d.header h in
     full.less (subst (Has m.top.left) s.1 (subst (λ (z : State). Has z.top.left d.content) s.2 d.room))
 enters_not w st n st' e (no_items_opened (too_deep i k m h deep is)) d = let few = d.few in omega (arith, deep, few)
-enters_not w st n st' e (no_start i k m h some f) d =
+enters_not w st n st' e (no_start i k m h room some f) d =
     let s = header_same false w st n d.content i k d.mid m d.header h in
     starts_not i k (in_container InArray 0 k m) e st' some f
     (subst (λ z. StartsItems i k (in_container InArray 0 k z) st') s.2
@@ -173,12 +173,12 @@ stopped_open w n k st m e new h s = record {
   ];
 }
 
-pub stopped_start : (w n k : ℕ) (st m m' : State) (e : Error) (new : State) → ReadsHeader false w st n k m → 0 < max n k
-    → m' ≡ in_container InArray 0 k m → (own : ℕ) → StopsAt true (At (shares_left n) m') m' e new
+pub stopped_start : (w n k : ℕ) (st m m' : State) (e : Error) (new : State) → ReadsHeader false w st n k m → Has m.top.left k
+    → 0 < max n k → m' ≡ in_container InArray 0 k m → (own : ℕ) → StopsAt true (At (shares_left n) m') m' e new
     → StopsAt true (At (enter_left own w) st) st e new
-stopped_start w n k st m m' e new h some is own s =
+stopped_start w n k st m m' e new h room some is own s =
     stops_later {st = st} {m = m'} (ap (λ (z : State). z.failed) is ∙ ap (λ (z : State). z.failed) h.took.moved)
-    (λ f x. let y = subst (λ z. At (shares_left n) z f) is x in (no_start n k m h some y.0, y.1)) s
+    (λ f x. let y = subst (λ z. At (shares_left n) z f) is x in (no_start n k m h room some y.0, y.1)) s
 
 -- as far as its items, of an array that begins at the place
 pub stopped_items : (w : ℕ) (st : State) (e : Error) (place : ℕ) (new : State) → Stops true (OpenItemsFault w st) st e new

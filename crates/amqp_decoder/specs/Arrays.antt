@@ -30,22 +30,23 @@ pub record TakesConstructor (st : State) (ds : List Descriptor) (c : ℕ) (st' :
 
 -- Behind a 0, and n descriptors before it, none more may stand, or none does.
 abbrev pub NoMarked : ℕ → State → Located → Type 0
-NoMarked n st f = ((f.error ≡ Depth) × (128 ≤ n) × (f.left ≡ suc (length st.rest))) ⊎ Here DescriptorFault st f
+NoMarked n st f = ((f.error ≡ Depth) × (128 ≤ n) × (f.left ≡ suc (length st.rest))) ⊎ ((n < 128) × Here DescriptorFault st f)
 
--- Why no constructor is taken.
+-- Why no constructor is taken, of which at most 128 descriptors may stand.
 pub data ConstructorFault (st : State) (e : Error) : Type 0 where
-  no_code : (ds : List Descriptor) (own : List ℕ) (m : State) → Marks ds own → Takes st own m → Lacks 1 m e → ConstructorFault st e
-  no_mark : (ds : List Descriptor) (m : State) → TakesMarks st ds 0 m → DescriptorFault m e → ConstructorFault st e
-  too_many : (ds : List Descriptor) (m : State) → TakesMarks st ds 0 m → 128 ≤ length ds → e ≡ Depth → ConstructorFault st e
-  no_known_code : (ds : List Descriptor) (c : ℕ) (m : State) → TakesMarks st ds c m → (c ≡ 0 → ⊥) → (IsKnown (format c) → ⊥)
-      → e ≡ refusal_of c → ConstructorFault st e
+  no_code : (ds : List Descriptor) (own : List ℕ) (m : State) → length ds ≤ 128 → Marks ds own → Takes st own m → Lacks 1 m e
+      → ConstructorFault st e
+  no_mark : (ds : List Descriptor) (m : State) → length ds < 128 → TakesMarks st ds 0 m → DescriptorFault m e → ConstructorFault st e
+  too_many : (ds : List Descriptor) (m : State) → length ds ≡ 128 → TakesMarks st ds 0 m → e ≡ Depth → ConstructorFault st e
+  no_known_code : (ds : List Descriptor) (c : ℕ) (m : State) → length ds ≤ 128 → TakesMarks st ds c m → (c ≡ 0 → ⊥)
+      → (IsKnown (format c) → ⊥) → e ≡ refusal_of c → ConstructorFault st e
 
 -- It stands at the code or the descriptor that is at fault: of too many, at the 0 in front of the last.
 abbrev pub constructor_left : (st : State) (e : Error) → ConstructorFault st e → ℕ
-constructor_left st e (no_code ds own m marks took lacks) = length m.rest
-constructor_left st e (no_mark ds m took fault) = length m.rest
-constructor_left st e (too_many ds m took many is) = suc (length m.rest)
-constructor_left st e (no_known_code ds c m took some unknown_ is) = suc (length m.rest)
+constructor_left st e (no_code ds own m few marks took lacks) = length m.rest
+constructor_left st e (no_mark ds m few took fault) = length m.rest
+constructor_left st e (too_many ds m many took is) = suc (length m.rest)
+constructor_left st e (no_known_code ds c m few took some unknown_ is) = suc (length m.rest)
 
 -- The items of this constructor hold no others.
 abbrev pub IsFlat : List Descriptor → Format → Type 0
@@ -106,13 +107,13 @@ pub data OpenItemsFault (width : ℕ) (st : State) (e : Error) : Type 0 where
 -- Why none is entered.
 pub data EnterArrayFault (width : ℕ) (st : State) (e : Error) : Type 0 where
   no_items_opened : OpenItemsFault width st e → EnterArrayFault width st e
-  no_start : (n content : ℕ) (m : State) → ReadsHeader false width st n content m → 0 < max n content
+  no_start : (n content : ℕ) (m : State) → ReadsHeader false width st n content m → Has m.top.left content → 0 < max n content
       → SharesFault n (in_container InArray 0 content m) e → EnterArrayFault width st e
 
 -- It stands where the array begins, from where on there are so many bytes, or in its constructor.
 abbrev pub enter_left : (own width : ℕ) (st : State) (e : Error) → EnterArrayFault width st e → ℕ
 enter_left own width st e (no_items_opened fault) = own
-enter_left own width st e (no_start n content m header some fault) = shares_left n (in_container InArray 0 content m) e fault
+enter_left own width st e (no_start n content m header room some fault) = shares_left n (in_container InArray 0 content m) e fault
 
 -- An array of n items stood next, as far as its items, and it was entered.
 pub record OpensArray (st : State) (n : ℕ) (st' : State) : Type 0 where

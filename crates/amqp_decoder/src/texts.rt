@@ -1,13 +1,14 @@
 //! The calls that read texts and binaries (Part 1, sections 1.6.19 to 1.6.21).
 ghost use Rattle.std.specs.Prelude.{◌<◌, ◌≤◌, ◌≡◌, ◌++◌, length, take, cond, IsAscii, string_bytes, IfOk, IfErr, true};
-ghost use Rattle.std.specs.Prelude.{false};
+ghost use Rattle.std.specs.Prelude.{false, None, IfSome};
 ghost use Rattle.amqp_model.specs.Term.{binary, string, symbol};
 ghost use Rattle.amqp_wire.specs.Sources.{Tells};
 ghost use Rattle.amqp_lookahead.specs.Kinds.{binaries, strings, symbols};
 ghost use Rattle.amqp_decoder.specs.State.{after_bytes};
+ghost use Rattle.amqp_decoder.specs.Quick.{ReadsLen};
 ghost use Rattle.amqp_decoder.specs.Reserve.{Spares};
 ghost use Rattle.amqp_decoder.specs.Places.{StandsHere};
-ghost use Rattle.amqp_decoder.specs.Steps.{Answers, Misses, Takes, Lacks, Stops, Goes, Tries};
+ghost use Rattle.amqp_decoder.specs.Steps.{Answers, Began, Misses, Takes, Lacks, Stops, Goes, Tries};
 ghost use Rattle.amqp_decoder.specs.Reading.{AnswersRead};
 ghost use Rattle.amqp_decoder.specs.Primitives.{ReadsSize, SizedFault, ReadsSized, ReadsText, TextFault, AnswersFault, ReadsValue, Means};
 ghost use Rattle.amqp_decoder.specs.Primitives.{PrimitiveFault};
@@ -117,6 +118,27 @@ impl<R: ByteSource> Decoder<R> {
         Ok(bytes)
     }
 
+    // The size that a value with one of these two codes begins with, if the code and the size are at hand. Else nothing is taken, and that
+    // says nothing about the value.
+    #[inline(always)]
+    fn quick_len(&mut self, narrow: u8, wide: u8) -> Option<u32>
+        ensures none { result ≡ None → self.new ≡ self.old }
+        ensures read { IfSome result (λ n. Tells R.remaining → ReadsLen narrow wide self.old n self.new) }
+        ensures began { IfSome result (λ _. Began self.old self.new) }
+    {
+        let code = self.plain_code()?;
+        if code == narrow {
+            let head = self.take_plain::<2>(narrow)?;
+            return Some(u32::from(head[1]));
+        }
+        if code == wide {
+            let head = self.take_plain::<5>(wide)?;
+            let [_, a, b, c, d] = head;
+            return Some(u32::from_be_bytes([a, b, c, d]));
+        }
+        None
+    }
+
     // The content of a value that has these two constructors, wherever it refuses.
     #[inline(always)]
     fn content(&mut self, narrow: u8, wide: u8, alloc: Global) -> Result<Vec<u8>, Error>
@@ -124,8 +146,8 @@ impl<R: ByteSource> Decoder<R> {
         ensures err { Tells R.remaining → IfErr result (λ e. AnswersFault true (TextFault narrow wide) self.old e self.new) }
         ensures tries { Tries true self.old result self.new }
     {
-        match self.quick::<2>(narrow) {
-            Some(head) => self.bytes_of(u32::from(head[1]), alloc),
+        match self.quick_len(narrow, wide) {
+            Some(len) => self.bytes_of(len, alloc),
             None => self.any_content(narrow, wide, alloc),
         }
     }

@@ -2,9 +2,10 @@
 use crate::colours::Colours;
 use crate::part::Part;
 use amqp_blocks::{
-    Entry, Head, Label, Longer, Shape, Span, default_of, field_name, is_true, longer_descriptor,
-    longer_head, meaning, name_of, type_name, unsigned, write_digits, write_value,
+    Entry, Head, Label, Longer, Shape, Span, is_true, longer_descriptor, longer_head, type_name,
+    unsigned, write_digits, write_value,
 };
+use amqp_descriptors::{default_of, field_name, meaning, name_of};
 use amqp_kinds::Kind;
 use std::alloc::AllocError;
 use std::fmt::Write;

@@ -20,7 +20,8 @@ mod printer;
 mod progress;
 mod text;
 
-use amqp_blocks::{Source, names};
+use amqp_blocks::Source;
+use amqp_descriptors::names;
 use arguments::Arguments;
 use input::{Input, PIECE};
 use printer::Printer;

@@ -2,7 +2,8 @@
 use crate::colours::Colours;
 use crate::entry_text::{write_entries, write_span};
 use crate::part::Part;
-use amqp_blocks::{Block, Entry, Fault, Shape, Span, Subject, name_of, write_digits};
+use amqp_blocks::{Block, Entry, Fault, Shape, Span, Subject, write_digits};
+use amqp_descriptors::name_of;
 use amqp_frames::{FrameKind, ProtocolHeader, ProtocolId};
 use std::alloc::AllocError;
 use std::fmt::Write;

@@ -1,10 +1,5 @@
-pub mod ReadAs
-pub mod Runs
-pub mod Groups
 pub mod Codes
 pub mod Turned
 pub mod Messages
-pub mod NoTerms
-pub mod Faulty
 pub mod MessageFaults
 pub mod Sections

@@ -19,17 +19,18 @@ use Rattle.amqp_messages.specs.Groups.{Progress, GroupFault, in_group, misplaced
 use Rattle.amqp_messages.specs.MessageTypes.{message_in}
 use Rattle.amqp_messages.specs.MessageWalk.{message_walk}
 use Rattle.amqp_messages.specs.Orders as orders
-use Rattle.amqp_message_spellings.specs.Spellings.{Spells, Are}
+use Rattle.amqp_batches.specs.Spellings.{Spells, Are}
 use Rattle.amqp_message_spellings.specs.Kinds.{Group, IsGroup, behind, put_all, nothing}
 use Rattle.amqp_message_spellings.specs.Messages.{delivery_annotations, message_annotations, application_properties, footer, body_in}
-use Rattle.amqp_message_spellings.specs.Faults.{Faults, IsGroupFault, IsNoSection, HasNoBody, IsBehindGroups, HasFault, HasStrictFault}
+use Rattle.amqp_batches.specs.SpellingFaults.{Faults}
+use Rattle.amqp_message_spellings.specs.Faults.{IsGroupFault, IsNoSection, HasNoBody, IsBehindGroups, HasFault, HasStrictFault}
 use Rattle.amqp_message_spellings.specs.Faults.{IsMessageFault, IsStrictFault, left_behind}
-use Rattle.amqp_message_spellings.proofs.ReadAs.{IsReadAs}
+use Rattle.amqp_batches.specs.laws.ReadAs.{IsReadAs}
 use Rattle.amqp_message_spellings.proofs.Codes.{IsCode, code_ahead}
 use Rattle.amqp_message_spellings.proofs.Turned.{ks, shape, fields}
 use Rattle.amqp_message_spellings.proofs.Messages.{so, walk, left_by, TookGroups, took_groups, placed_few, left_any, placed_fall, seven_left, at_end}
-use Rattle.amqp_message_spellings.proofs.NoTerms.{also_free, no_section_named}
-use Rattle.amqp_message_spellings.proofs.Faulty.{IsNamedAs, term_named}
+use Rattle.amqp_batches.specs.laws.NoTerms.{also_free, no_section_named}
+use Rattle.amqp_batches.specs.laws.NamedAs.{IsNamedAs, term_named}
 
 module _ {S B : Type 0} (made : Made S B) {group : Spells S} {body : Faults} (l : IsReadAs made.group group)
     (b : IsNamedAs made.group body) where

@@ -21,10 +21,10 @@ use Rattle.amqp_messages.specs.Orders as orders
 use Rattle.amqp_messages.specs.Orders.{IsFull}
 use Rattle.amqp_messages.specs.laws.KindLimits.{shape_bound}
 use Rattle.amqp_messages.specs.laws.MessageLimits.{message_bound}
-use Rattle.amqp_message_spellings.specs.Spellings.{Spells, Are}
+use Rattle.amqp_batches.specs.Spellings.{Spells, Are}
 use Rattle.amqp_message_spellings.specs.Kinds.{Fields, Group, IsGroup, behind, nothing, put_all, Fall}
 use Rattle.amqp_message_spellings.specs.Messages.{IsMadeOf, IsMessage, IsStrictMessage}
-use Rattle.amqp_message_spellings.proofs.ReadAs.{IsReadAs}
+use Rattle.amqp_batches.specs.laws.ReadAs.{IsReadAs}
 use Rattle.amqp_message_spellings.proofs.Turned.{ks, shape, fields, turned, reads}
 
 module _ {S B : Type 0} (made : Made S B) {body : Spells S} (l : IsReadAs made.group body) where

@@ -12,13 +12,13 @@ use Rattle.amqp_sections.specs.declared.amqp_value.AmqpValue.{AmqpValue}
 use Rattle.amqp_sections.specs.declared.data.Data.{Data as DataSection}
 use Rattle.amqp_bodies.specs.declared.body.Body.TheVariants.{Value, Data, Sequence, Empty}
 use Rattle.amqp_bodies.specs.Bodies.{Made}
-use Rattle.amqp_message_spellings.specs.Bodies.{IsBody}
+use Rattle.amqp_bodies.specs.SpelledBodies.{IsBody, IsThere}
 use Rattle.amqp_message_spellings.specs.Messages.{IsMessage, IsStrictMessage, kinds}
 use Rattle.amqp_section_slices.specs.declared.section_kind.SectionKind.{SectionKind}
 use Rattle.amqp_section_slices.specs.Kinds.{code_of}
 use Rattle.amqp_section_slices.specs.Slices.{BeginsWithSection}
 use Rattle.amqp_batches.specs.Batches.{sections_in}
-use Rattle.amqp_message_spellings.specs.Spellings.{Spells, Are, IsTerm, IsSection, IsBatch, IsThere}
+use Rattle.amqp_batches.specs.Spellings.{Spells, Are, IsTerm, IsSection, IsBatch}
 use Rattle.amqp_message_spellings.specs.Kinds.{Kinds, none, kind, Group, IsGroup}
 use Rattle.amqp_message_spellings.specs.Sections.{AreSections, HasSections, IsNextOf}
 

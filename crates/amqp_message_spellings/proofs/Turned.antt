@@ -12,10 +12,10 @@ use Rattle.amqp_messages.specs.declared.message.Groups.{Groups}
 use Rattle.amqp_messages.specs.Groups.{Shape}
 use Rattle.amqp_messages.specs.MessageTypes.{message_of}
 use Rattle.amqp_messages.specs.Orders as orders
-use Rattle.amqp_message_spellings.specs.Spellings.{Spells}
+use Rattle.amqp_batches.specs.Spellings.{Spells}
 use Rattle.amqp_message_spellings.specs.Kinds.{Kinds, Comes, is_in, Fields, Group, IsGroup, behind, put}
 use Rattle.amqp_message_spellings.specs.Messages.{delivery_annotations, message_annotations, application_properties, footer, kinds}
-use Rattle.amqp_message_spellings.proofs.ReadAs.{IsReadAs, Took, took, takes, still_free, term_is_read}
+use Rattle.amqp_batches.specs.laws.ReadAs.{IsReadAs, Took, took, takes, still_free, term_is_read}
 use Rattle.amqp_message_spellings.proofs.Codes.{IsCode, code_ahead, sole, of_body}
 
 -- What is read under this one code.

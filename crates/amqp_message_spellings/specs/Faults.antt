@@ -1,54 +1,14 @@
--- Where bytes are no batch, body or message, and what is wrong there (Part 3, section 3.2).
+-- Where bytes are no message, and what is wrong there (Part 3, section 3.2).
 use Rattle.std.specs.Prelude.{◌≡◌, ◌⊎◌, ◌<◌, ◌≤◌, ℕ, Bool, true, false, List, [], ◌∷◌, ◌++◌, length, None}
 use Rattle.amqp_wire.specs.declared.error.Error.{Error}
-use Rattle.amqp_wire.specs.declared.error.Error.TheVariants.{EmptyBody, Misplaced, WrongDescriptor}
+use Rattle.amqp_wire.specs.declared.error.Error.TheVariants.{EmptyBody, Misplaced}
 use Rattle.amqp_lookahead.specs.Sections.{IsSectionAhead}
-use Rattle.amqp_decoder.specs.Misspelled.{IsMisspelling}
-use Rattle.amqp_codec.specs.TermType.{TermType}
-use Rattle.amqp_codec.specs.Reading.{Reading, IsUnreadable, IsUnspelled}
-use Rattle.amqp_sections.specs.declared.data.Data.{Data}
-use Rattle.amqp_sections.specs.declared.amqp_sequence.AmqpSequence.{AmqpSequence}
+use Rattle.amqp_batches.specs.Spellings.{Spells, Are}
+use Rattle.amqp_batches.specs.SpellingFaults.{Faults, IsNoTerm}
 use Rattle.amqp_bodies.specs.Bodies.{Made}
 use Rattle.amqp_messages.specs.Orders as orders
-use Rattle.amqp_message_spellings.specs.Spellings.{Spells, IsTerm, IsSection, Are}
 use Rattle.amqp_message_spellings.specs.Kinds.{Group, IsGroup, is_in, nothing, put_all, behind, Fall}
 use Rattle.amqp_message_spellings.specs.Messages.{kinds, body_in}
-
--- Which errors report a fault at the start of the bytes.
-abbrev pub Faults : Type 1
-Faults = List ℕ → Error → Type 0
-
--- If the error says of bytes that they are no term, none of these begins with one.
-abbrev pub IsNoTerm : Faults
-IsNoTerm at e = IsMisspelling e → IsUnspelled e at
-
--- An input from which nothing is read has the fault that is reported.
-abbrev pub IsRefusedFor : {T : Type 0} → Reading T → Faults → Type 0
-IsRefusedFor r fault = (input : List ℕ) (e : Error) → IsUnreadable r input e → fault input e
-
--- Behind some whole sections of this kind another one begins, and is none.
-pub record IsRunFault {T : Type 0} (c : ℕ) (u : TermType T) (input : List ℕ) (e : Error) : Type 0 where
-  pub bytes : List ℕ
-  pub values : List T
-  pub at : List ℕ
-  pub split : input ≡ bytes ++ at
-  pub are : Are (IsSection c (IsTerm u)) bytes values at
-  pub next : IsSectionAhead at c
-  pub has : IsNoTerm at e
-
--- What begins as the section of this code has the fault, or another thing comes next.
-pub data IsSectionFault (c : ℕ) (fault : Faults) (input : List ℕ) (e : Error) : Type 0 where
-  begun : IsSectionAhead input c → fault input e → IsSectionFault c fault input e
-  other : (IsSectionAhead input c → ⊥) → e ≡ WrongDescriptor → IsSectionFault c fault input e
-
--- The group whose section comes next has the fault; or that section is none of a body's; or no section comes next.
-pub data IsBodyFault {T : Type 0} (data_ : TermType Data) (sequence : TermType (AmqpSequence T)) (input : List ℕ) (e : Error) : Type 0 where
-  in_value : IsSectionAhead input 0x77 → IsNoTerm input e → IsBodyFault data_ sequence input e
-  in_data : IsSectionAhead input 0x75 → IsRunFault 0x75 data_ input e → IsBodyFault data_ sequence input e
-  in_sequence : IsSectionAhead input 0x76 → IsRunFault 0x76 sequence input e → IsBodyFault data_ sequence input e
-  no_body : {c : ℕ} → IsSectionAhead input c → (c ≡ 0x75 → ⊥) → (c ≡ 0x76 → ⊥) → (c ≡ 0x77 → ⊥) → e ≡ WrongDescriptor
-      → IsBodyFault data_ sequence input e
-  no_section : ((c : ℕ) → IsSectionAhead input c → ⊥) → IsNoTerm input e → IsBodyFault data_ sequence input e
 
 abbrev pub is_of_body : ℕ → Bool
 is_of_body c = is_in (0x75 ∷ 0x76 ∷ 0x77 ∷ []) c

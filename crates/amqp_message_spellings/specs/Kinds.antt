@@ -2,7 +2,7 @@
 use Rattle.std.proofs.Common.{inl, inr}
 use Rattle.std.specs.Prelude.{◌≡◌, ◌⊎◌, ℕ, suc, ◌<◌, ◌≤◌, Bool, true, false, ◌||◌, eqb, List, [], ◌∷◌, ◌++◌, length, Option, Some, None}
 use Rattle.amqp_lookahead.specs.Sections.{IsSectionAhead}
-use Rattle.amqp_message_spellings.specs.Spellings.{Spells, Are}
+use Rattle.amqp_batches.specs.Spellings.{Spells, Are}
 
 -- A kind: what a group of it is, with which of these sections it begins, and which bytes it has.
 pub record Kind : Type 1 where

@@ -1,6 +1,4 @@
-pub mod Spellings
 pub mod Sections
-pub mod Bodies
 pub mod Kinds
 pub mod Messages
 pub mod Faults

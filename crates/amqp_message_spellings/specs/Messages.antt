@@ -17,7 +17,7 @@ use Rattle.amqp_bodies.specs.Bodies.{Made}
 use Rattle.amqp_messages.specs.declared.message.Message.{Message}
 use Rattle.amqp_messages.specs.declared.strict.Strict.{Strict}
 use Rattle.amqp_messages.specs.MessageTypes.{message_in}
-use Rattle.amqp_message_spellings.specs.Spellings.{Spells, IsTerm}
+use Rattle.amqp_batches.specs.Spellings.{Spells, IsTerm}
 use Rattle.amqp_message_spellings.specs.Kinds.{Kind, Kinds, none, kind, Fields, IsInAnyOrder, IsInOrder}
 
 -- The types of the sections that are maps.

@@ -4,7 +4,7 @@ use Rattle.amqp_lookahead.specs.Sections.{IsSectionAhead}
 use Rattle.amqp_lengths.specs.Lengths.{IsTerm as IsWholeTerm}
 use Rattle.amqp_section_slices.specs.declared.section_kind.SectionKind.{SectionKind}
 use Rattle.amqp_section_slices.specs.Kinds.{code_of}
-use Rattle.amqp_message_spellings.specs.Spellings.{Spells, Are}
+use Rattle.amqp_batches.specs.Spellings.{Spells, Are}
 
 -- One section, which is one whole term, by the code of its kind.
 abbrev pub IsOneSection : Spells ℕ

@@ -14,7 +14,7 @@ ghost use Rattle.amqp_messages.specs.declared.order.Order.TheVariants.{Any};
 use crate::message::{Groups, Message};
 use crate::next::next_section;
 use crate::order::Order;
-use amqp_bodies::FromBody;
+use amqp_bodies::{DeserializableBody, FromBody};
 use amqp_codec::{Deserialize, DeserializeTerm};
 use amqp_decoder::Decoder;
 use amqp_map_sections::{ApplicationProperties, DeliveryAnnotations, Footer, MessageAnnotations};
@@ -51,7 +51,7 @@ fn put_body<B: FromBody, R: ByteSource>(
     ensures read { Tells R.remaining → AnswersPut B.made.group place.new decoder.old result decoder.new }
     ensures tries { Tries true decoder.old result decoder.new }
 {
-    match B::read_body(decoder, alloc) {
+    match B::Body::read_group(decoder, alloc) {
         Ok(body) => {
             *place = Some(body);
             Ok(())

@@ -1,32 +1,26 @@
 -- From an array to its content, and why none is opened (Part 1, sections 1.2.4 and 1.6.24).
-use Rattle.std.proofs.Common.{◌≡◌, [], ◌∷◌, ℕ, suc, ◌≤◌, false, Some, None, ◌++◌, length, take}
+use Rattle.std.proofs.Common.{◌≡◌, ℕ, suc, ◌≤◌, false, Some, None, ◌++◌, length, take}
 use Rattle.std.proofs.Common.{refl, sym, ap, ◌∙◌, subst, arith}
 use Rattle.std.proofs.lemmas.List.{length-append}
 use Rattle.std.specs.Int.{bytes_high_first}
 use Rattle.amqp_model.specs.Term.{array}
 use Rattle.amqp_model.specs.Constructors.{compound, format}
 use Rattle.amqp_wire.specs.declared.error.Error.{Error}
-use Rattle.amqp_wire.specs.Codes.{refusal_of}
 use Rattle.amqp_lengths.specs.Stands.{Piece, an_array, Around, outermost}
 use Rattle.amqp_lengths.specs.Stands.{Step, to_array, IsWrong}
 use Rattle.amqp_decoder.specs.declared.frame.Place.TheVariants.{InArray}
 use Rattle.amqp_decoder.specs.State.{State, Has, bound_of, in_container}
-use Rattle.amqp_decoder.specs.Reading.{IsFirst, ReadsCode}
+use Rattle.amqp_decoder.specs.Reading.{ReadsCode}
 use Rattle.amqp_decoder.specs.Containers.{ReadsHeader}
 use Rattle.amqp_decoder.specs.Arrays.{OpenItemsFault, no_header, no_room, too_deep}
-use Rattle.amqp_decoder.specs.Arrays.{no_items_opened, no_start, not_begun, wrong_code, no_data, array_left}
-use Rattle.amqp_decoder.specs.Places.{Located, At}
+use Rattle.amqp_decoder.specs.Places.{Located}
 use Rattle.amqp_decoder.proofs.Rooms.{room_fits}
-use Rattle.amqp_decoder.proofs.Opening.{not_array}
-use Rattle.amqp_placed.specs.Facing.{bytes_open, IsAround, Faces, Shows, IsShown, any_input, without_arrays, HasNoArrays, IsAhead}
-use Rattle.amqp_placed.specs.Shown.{IsOfNoConstructor}
+use Rattle.amqp_placed.specs.Facing.{bytes_open, IsAround, Faces, Shows}
 use Rattle.amqp_placed.proofs.Past.{past_code, past_taken, has_bound, past_bytes, past_length, past_around}
-use Rattle.amqp_placed.proofs.Here.{wrong_as, here_shows, begin_wrong, other_code_wrong}
 use Rattle.amqp_placed.proofs.Onward.{onward_shows}
 use Rattle.amqp_placed.proofs.Contents.{content_there}
 use Rattle.amqp_placed.proofs.Opening.{entering, compound_some, not_flat, header_wrong, no_room_wrong, head_is}
 use Rattle.amqp_placed.proofs.Inside.{take_up_to, entered_around}
-use Rattle.amqp_placed.proofs.Constructors.{shares_not}
 
 -- An array's content, before its constructor.
 pub record Begun (d : ℕ) (around : Around) (m : State) : Type 0 where
@@ -88,31 +82,3 @@ items_wrong st c w m e P d around h code is (too_deep n content m2 header deep e
     let past = past_code st c m code in
     let few = room_fits st h.room code.item (λ flat. not_flat st.top.shared c w code.own array code.first is flat) in
     absurd (omega (arith, few, deep, past.nesting, ap length past.saved))
-
--- Why no array is opened, but for its constructor.
-pub array_unopened_shown : (st : State) (f : Located) → IsOfNoConstructor f.error → At array_left st f → IsShown any_input st f
-array_unopened_shown st f other (not_begun fault, is) P d around meant h =
-    here_shows st f P d around is (begin_wrong st f.error P d around h fault)
-array_unopened_shown st f other (wrong_code c m code differs error, is) P d around meant h =
-    here_shows st f P d around is
-    (wrong_as f.error (refusal_of c) around P d (bytes_open st) error (other_code_wrong st c m P d around h code))
-array_unopened_shown st f other (no_data c w m code array_ (no_items_opened fault), is) P d around meant h =
-    here_shows st f P d around is (items_wrong st c w m f.error P d around h code array_ fault)
-array_unopened_shown st f other (no_data c w m code array_ (no_start n content m2 header some fault), is) P d around meant h =
-    absurd (shares_not n (in_container InArray 0 content m2) f.error fault other)
-
--- No array begins where there are none.
-pub no_array_there : (st : State) (c w : ℕ) (m : State) → IsAhead without_arrays st → ReadsCode st c m → format c ≡ compound array w → ⊥
-no_array_there st c w m ahead code is =
-    let first : code.own ≡ c ∷ [] = subst (λ o. IsFirst o c code.own) ahead.1 code.first in
-    let there : HasNoArrays (c ∷ m.rest) =
-    subst HasNoArrays ((past_code st c m code).rest ∙ ap (λ l. l ++ m.rest) first) ahead.0 in
-    not_array c there.0 there.1 w is
-
-pub none_unopened_shown : (st : State) (f : Located) → At array_left st f → IsShown without_arrays st f
-none_unopened_shown st f (not_begun fault, is) P d around ahead h =
-    here_shows st f P d around is (begin_wrong st f.error P d around h fault)
-none_unopened_shown st f (wrong_code c m code differs error, is) P d around ahead h =
-    here_shows st f P d around is
-    (wrong_as f.error (refusal_of c) around P d (bytes_open st) error (other_code_wrong st c m P d around h code))
-none_unopened_shown st f (no_data c w m code array_ fault, is) P d around ahead h = absurd (no_array_there st c w m ahead code array_)

@@ -13,8 +13,8 @@ use Rattle.amqp_restricted_types.specs.Termini.{terminus_durability_numbers, ter
 use Rattle.amqp_delivery.specs.Tables.{delivery_state}
 use Rattle.amqp_termini.specs.Tables.{source, target, coordinator, lifetime_policies, lifetime_policy, target_archetypes, target_archetype}
 use Rattle.amqp_attach.specs.Tables.{unsettled_type, attach, performatives, performative}
-use Rattle.amqp_placed.specs.Facing.{AreShown, Inputs}
-use Rattle.amqp_placed.specs.Shown.{FieldsShown, TellsArrays}
+use Rattle.amqp_placed.specs.Facing.{AreShown}
+use Rattle.amqp_placed.specs.Shown.{FieldsShown}
 use Rattle.amqp_placed.proofs.Items.{map_shown}
 use Rattle.amqp_placed.proofs.Formers.{option_shown}
 use Rattle.amqp_placed.proofs.Composites.{composite_shown}
@@ -24,25 +24,25 @@ use Rattle.amqp_placed.proofs.Performatives as of
 use Rattle.amqp_placed.proofs.Performatives.{open_fields, begin_fields, flow_fields, transfer_fields, disposition_fields, detach_fields}
 use Rattle.amqp_placed.proofs.Performatives.{end_fields, close_fields, outcome_shown, state_shown}
 
-module _ (inputs : Inputs) (e : Error) (other : TellsArrays inputs e) (new : e â‰¡ DuplicateKey â†’ âŠ¥) where
-  source_fields : FieldsShown inputs e source.fields
+module _ (e : Error) (new : e â‰¡ DuplicateKey â†’ âŠ¥) where
+  source_fields : FieldsShown e source.fields
   source_fields = (
-    of.basic inputs e other new strings,
+    of.basic e new strings,
     (
-      restricted_shown inputs e uint_base UnknownNumber terminus_durability_numbers tt,
+      restricted_shown e uint_base UnknownNumber terminus_durability_numbers tt,
       (
-        restricted_shown inputs e symbol_base UnknownText terminus_expiry_policy_texts tt,
+        restricted_shown e symbol_base UnknownText terminus_expiry_policy_texts tt,
         (
-          of.basic inputs e other new uints,
+          of.basic e new uints,
           (
-            of.basic inputs e other new booleans,
+            of.basic e new booleans,
             (
-              of.held inputs e other new,
+              of.held e new,
               (
-                restricted_shown inputs e symbol_base UnknownText distribution_mode_texts tt,
+                restricted_shown e symbol_base UnknownText distribution_mode_texts tt,
                 (
-                  of.held inputs e other new,
-                  (outcome_shown inputs e other new, (of.several inputs e other new, (of.several inputs e other new, tt))),
+                  of.held e new,
+                  (outcome_shown e new, (of.several e new, (of.several e new, tt))),
                 ),
               ),
             ),
@@ -52,20 +52,20 @@ module _ (inputs : Inputs) (e : Error) (other : TellsArrays inputs e) (new : e â
     ),
   )
 
-  target_fields : FieldsShown inputs e target.fields
+  target_fields : FieldsShown e target.fields
   target_fields = (
-    of.basic inputs e other new strings,
+    of.basic e new strings,
     (
-      restricted_shown inputs e uint_base UnknownNumber terminus_durability_numbers tt,
+      restricted_shown e uint_base UnknownNumber terminus_durability_numbers tt,
       (
-        restricted_shown inputs e symbol_base UnknownText terminus_expiry_policy_texts tt,
+        restricted_shown e symbol_base UnknownText terminus_expiry_policy_texts tt,
         (
-          of.basic inputs e other new uints,
+          of.basic e new uints,
           (
-            of.basic inputs e other new booleans,
+            of.basic e new booleans,
             (
-              of.held inputs e other new,
-              (of.several inputs e other new, tt),
+              of.held e new,
+              (of.several e new, tt),
             ),
           ),
         ),
@@ -73,41 +73,41 @@ module _ (inputs : Inputs) (e : Error) (other : TellsArrays inputs e) (new : e â
     ),
   )
 
-  coordinator_fields : FieldsShown inputs e coordinator.fields
+  coordinator_fields : FieldsShown e coordinator.fields
   coordinator_fields =
-      (multiple_shown inputs e other txn_capability_type (restricted_shown inputs e symbol_base UnknownText txn_capability_texts tt), tt)
+      (multiple_shown e txn_capability_type (restricted_shown e symbol_base UnknownText txn_capability_texts tt), tt)
 
-  pub source_shown : AreShown inputs e (composite source).faults.fault
-  source_shown = composite_shown inputs e source source_fields
+  pub source_shown : AreShown e (composite source).faults.fault
+  source_shown = composite_shown e source source_fields
 
-  pub target_shown : AreShown inputs e (composite target).faults.fault
-  target_shown = composite_shown inputs e target target_fields
+  pub target_shown : AreShown e (composite target).faults.fault
+  target_shown = composite_shown e target target_fields
 
-  pub coordinator_shown : AreShown inputs e (composite coordinator).faults.fault
-  coordinator_shown = composite_shown inputs e coordinator coordinator_fields
+  pub coordinator_shown : AreShown e (composite coordinator).faults.fault
+  coordinator_shown = composite_shown e coordinator coordinator_fields
 
-  pub lifetime_shown : AreShown inputs e lifetime_policy.faults.fault
-  lifetime_shown = sum_shown inputs e lifetime_policies (tt, (tt, (tt, (tt, tt))))
+  pub lifetime_shown : AreShown e lifetime_policy.faults.fault
+  lifetime_shown = sum_shown e lifetime_policies (tt, (tt, (tt, (tt, tt))))
 
-  pub archetype_shown : AreShown inputs e target_archetype.faults.fault
-  archetype_shown = sum_shown inputs e target_archetypes (target_fields, (coordinator_fields, tt))
+  pub archetype_shown : AreShown e target_archetype.faults.fault
+  archetype_shown = sum_shown e target_archetypes (target_fields, (coordinator_fields, tt))
 
-  unsettled_shown : AreShown inputs e unsettled_type.faults.fault
+  unsettled_shown : AreShown e unsettled_type.faults.fault
   unsettled_shown =
-      map_shown binary_type (option_of delivery_state) inputs e new (of.basic inputs e other new binaries)
-      (option_shown inputs e delivery_state.faults.fault (state_shown inputs e other new))
+      map_shown binary_type (option_of delivery_state) e new (of.basic e new binaries)
+      (option_shown e delivery_state.faults.fault (state_shown e new))
 
-  attach_fields : FieldsShown inputs e attach.fields
+  attach_fields : FieldsShown e attach.fields
   attach_fields = (
-    of.basic inputs e other new strings,
+    of.basic e new strings,
     (
-      of.basic inputs e other new uints,
+      of.basic e new uints,
       (
-        restricted_shown inputs e boolean_base UnknownNumber role_numbers tt,
+        restricted_shown e boolean_base UnknownNumber role_numbers tt,
         (
-          restricted_shown inputs e ubyte_base UnknownNumber sender_settle_mode_numbers tt,
+          restricted_shown e ubyte_base UnknownNumber sender_settle_mode_numbers tt,
           (
-            restricted_shown inputs e ubyte_base UnknownNumber receiver_settle_mode_numbers tt,
+            restricted_shown e ubyte_base UnknownNumber receiver_settle_mode_numbers tt,
             (
               source_shown,
               (
@@ -115,16 +115,16 @@ module _ (inputs : Inputs) (e : Error) (other : TellsArrays inputs e) (new : e â
                 (
                   unsettled_shown,
                   (
-                    of.basic inputs e other new booleans,
+                    of.basic e new booleans,
                     (
-                      of.basic inputs e other new uints,
+                      of.basic e new uints,
                       (
-                        of.basic inputs e other new ulongs,
+                        of.basic e new ulongs,
                         (
-                          of.several inputs e other new,
+                          of.several e new,
                           (
-                            of.several inputs e other new,
-                            (of.held inputs e other new, tt),
+                            of.several e new,
+                            (of.held e new, tt),
                           ),
                         ),
                       ),
@@ -139,26 +139,26 @@ module _ (inputs : Inputs) (e : Error) (other : TellsArrays inputs e) (new : e â
     ),
   )
 
-  pub attach_shown : AreShown inputs e (composite attach).faults.fault
-  attach_shown = composite_shown inputs e attach attach_fields
+  pub attach_shown : AreShown e (composite attach).faults.fault
+  attach_shown = composite_shown e attach attach_fields
 
-  pub performative_shown : AreShown inputs e performative.faults.fault
+  pub performative_shown : AreShown e performative.faults.fault
   performative_shown =
-      sum_shown inputs e performatives (
-        open_fields inputs e other new,
+      sum_shown e performatives (
+        open_fields e new,
         (
-          begin_fields inputs e other new,
+          begin_fields e new,
           (
             attach_fields,
             (
-              flow_fields inputs e other new,
+              flow_fields e new,
               (
-                transfer_fields inputs e other new,
+                transfer_fields e new,
                 (
-                  disposition_fields inputs e other new,
+                  disposition_fields e new,
                   (
-                    detach_fields inputs e other new,
-                    (end_fields inputs e other new, (close_fields inputs e other new, tt)),
+                    detach_fields e new,
+                    (end_fields e new, (close_fields e new, tt)),
                   ),
                 ),
               ),

@@ -2,16 +2,16 @@
 use Rattle.amqp_wire.specs.declared.error.Error.{Error}
 use Rattle.amqp_codec.specs.Composite.{Table, composite, composite_members}
 use Rattle.amqp_codec.specs.laws.Composite.{composite_is_sum}
-use Rattle.amqp_placed.specs.Facing.{AreShown, Inputs}
+use Rattle.amqp_placed.specs.Facing.{AreShown}
 use Rattle.amqp_placed.specs.Shown.{FieldsShown}
 use Rattle.amqp_placed.proofs.Fields.{fields_shown}
 use Rattle.amqp_placed.proofs.Formers.{member_shown}
 
-pub composite_shown : (inputs : Inputs) {V : Type 0} (e : Error) (c : Table V) → FieldsShown inputs e c.fields
-    → AreShown inputs e (composite c).faults.fault
-composite_shown inputs e c shown =
-    member_shown inputs e (composite_members c)
+pub composite_shown : {V : Type 0} (e : Error) (c : Table V) → FieldsShown e c.fields
+    → AreShown e (composite c).faults.fault
+composite_shown e c shown =
+    member_shown e (composite_members c)
     (λ i inner v last h. (let r = (composite_is_sum c).to_term i inner v last h in (
       r.term,
       r.taken,
-    ))) (λ i. fields_shown inputs e c.fields shown)
+    ))) (λ i. fields_shown e c.fields shown)

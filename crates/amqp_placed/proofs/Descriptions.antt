@@ -24,9 +24,8 @@ use Rattle.amqp_decoder.specs.Described.{one_of_left}
 use Rattle.amqp_decoder.specs.Described.{not_open, nameless, not_described, no_descriptor, no_member}
 use Rattle.amqp_decoder.specs.Places.{Located, At}
 use Rattle.amqp_decoder.proofs.Rooms.{room_in_described}
-use Rattle.amqp_placed.specs.Facing.{bytes_open, IsAround, IsUnderShared, IsNext, Faces, Shows, IsShown, Inputs, IsMeant, IsAhead}
+use Rattle.amqp_placed.specs.Facing.{bytes_open, IsAround, IsUnderShared, IsNext, Faces, Shows, IsShown}
 use Rattle.amqp_placed.proofs.Past.{Past, past_code, past_taken, past_both, past_bytes, past_length, past_around, past_unlimited}
-use Rattle.amqp_placed.proofs.Past.{ahead_there, meant_there, past_meant}
 use Rattle.amqp_placed.proofs.Codes.{other_kind_wrong}
 use Rattle.amqp_placed.proofs.Primitives.{data_wrong, no_value_wrong}
 use Rattle.amqp_placed.proofs.Here.{no_bytes, wrong_as, deep_here, here_shows, lacks_wrong, next_left, begin_wrong, other_code_wrong}
@@ -156,21 +155,21 @@ other_shows st m m' D f P d around h code took error is =
         (λ none. cc)))
 
 -- A described value that isn't opened.
-pub unopened_shown : (inputs : Inputs) (st : State) (f : Located) → At open_left st f → IsShown inputs st f
-unopened_shown inputs st f (not_open fault, is) P d around meant h = here_shows st f P d around is
+pub unopened_shown : (st : State) (f : Located) → At open_left st f → IsShown st f
+unopened_shown st f (not_open fault, is) P d around h = here_shows st f P d around is
     (described_wrong st f.error P d around h fault)
-unopened_shown inputs st f (nameless {m} code own fault, is) P d around meant h = descriptor_shows st m f P d around h code own fault is
+unopened_shown st f (nameless {m} code own fault, is) P d around h = descriptor_shows st m f P d around h code own fault is
 
 -- One that isn't opened as a member.
-pub no_member_shown : (inputs : Inputs) (members : List Member) (st : State) (f : Located) → At (one_of_left members) st f
-    → IsShown inputs st f
-no_member_shown inputs members st f (not_described fault, is) P d around meant h =
+pub no_member_shown : (members : List Member) (st : State) (f : Located) → At (one_of_left members) st f
+    → IsShown st f
+no_member_shown members st f (not_described fault, is) P d around h =
     here_shows st f P d around is (described_wrong st f.error P d around h fault)
-no_member_shown inputs members st f (
+no_member_shown members st f (
   no_descriptor {m} code own fault,
   is,
-) P d around meant h = descriptor_shows st m f P d around h code own fault is
-no_member_shown inputs members st f (no_member {m} {m'} code took error, is) P d around meant h =
+) P d around h = descriptor_shows st m f P d around h code own fault is
+no_member_shown members st f (no_member {m} {m'} code took error, is) P d around h =
     other_shows st m m' took.descriptor f P d around h code took.took error is
 
 -- What is described.
@@ -220,10 +219,10 @@ described_around m around h = go around h
     go cut_one (l, some, few) = (l, some, omega (arith, outer, few))
 
 -- What is shown of what a descriptor describes is shown of the described value.
-pub described_shown : (inputs : Inputs) (st inner : State) (D : Descriptor) (f : Located) → OpensDescribed st D inner
-    → IsShown inputs inner f
-    → IsShown inputs st f
-described_shown inputs st inner D f o shown P d around meant h =
+pub described_shown : (st inner : State) (D : Descriptor) (f : Located) → OpensDescribed st D inner
+    → IsShown inner f
+    → IsShown st f
+described_shown st inner D f o shown P d around h =
     let t = o.descriptor in
     let past0 = past_code st 0 o.coded o.begun in
     let past = past_both o.begun.own t.own st o.coded o.named past0 (past_taken o.coded t.own o.named t.took) in
@@ -238,8 +237,6 @@ described_shown inputs st inner D f o shown P d around meant h =
     (next_left st.top.items st.top.shared P o.begun.item h.next) o.begun.first names whole in
     let saved : length inner.saved ≡ suc (length st.saved) =
     ap (λ (x : State). length x.saved) o.opened ∙ ap (λ l. suc (length l)) past.saved in
-    let there : IsAhead inputs inner = ahead_there inputs st inner meant (λ own. shared ∙ ap behind own)
-    (subst (λ (x : State). IsMeant inputs x.rest) (sym o.opened) (past_meant past inputs (meant_there inputs st meant))) in
     let faces : Faces inner k.piece (suc d) around = record {
       nesting = ap (λ (x : State). x.nesting) o.opened ∙ past.nesting ∙ h.nesting;
       uncounted = ap (λ (x : State). x.quota) o.opened ∙ past.uncounted h.uncounted;
@@ -253,4 +250,4 @@ described_shown inputs st inner D f o shown P d around meant h =
     } in
     next_shows st inner f around P k.piece d (suc d) (length (o.begun.own ++ t.own))
     (omega (arith, ap length whole, length-append (o.begun.own ++ t.own) (bytes_open inner)))
-    (omega (arith, past_length past, ap (λ (x : State). length x.rest) o.opened)) k.step (shown k.piece (suc d) around there faces)
+    (omega (arith, past_length past, ap (λ (x : State). length x.rest) o.opened)) k.step (shown k.piece (suc d) around faces)

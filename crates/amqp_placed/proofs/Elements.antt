@@ -23,8 +23,7 @@ use Rattle.amqp_decoder.proofs.Rooms.{room_row, room_in_array}
 use Rattle.amqp_decoder.proofs.Constructed.{code_known}
 use Rattle.amqp_codec.specs.ItemsReading.{ItemsFault, unopened, at_item, unclosed}
 use Rattle.amqp_containers.specs.ArrayType.{array_opening}
-use Rattle.amqp_placed.specs.Facing.{bytes_open, IsAround, IsNext, Faces, Shows, IsShown, AreShown, Inputs, any_input, without_arrays}
-use Rattle.amqp_placed.specs.Shown.{IsOfNoConstructor, TellsArrays}
+use Rattle.amqp_placed.specs.Facing.{bytes_open, IsAround, IsNext, Faces, Shows, IsShown, AreShown}
 use Rattle.amqp_placed.proofs.Past.{Past, past_taken, past_none, past_bytes, past_length, past_around, past_bound, past_unlimited}
 use Rattle.amqp_placed.proofs.Here.{none_some, here_shows}
 use Rattle.amqp_placed.proofs.Onward.{next_shows}
@@ -32,7 +31,8 @@ use Rattle.amqp_placed.proofs.Inside.{InRow, in_row_under}
 use Rattle.amqp_placed.proofs.Ends.{close_wrong}
 use Rattle.amqp_placed.proofs.Wholes.{bare_data}
 use Rattle.amqp_placed.proofs.Constructors.{flat_or_level}
-use Rattle.amqp_placed.proofs.Arrays.{Begun, content_shows, array_unopened_shown, no_array_there, none_unopened_shown}
+use Rattle.amqp_placed.proofs.Arrays.{Begun, content_shows}
+use Rattle.amqp_placed.proofs.Unopened.{array_unopened_shown}
 use Rattle.amqp_placed.proofs.Items.{each_taken}
 
 -- An array's items, and the constructor that they share.
@@ -166,8 +166,8 @@ item_left (suc left) items ds c n i is some known =
 
 -- What is shown behind some items of an array is shown of the array.
 element_shown : (st first mid : State) (n : ℕ) (ts : List Term) (b : List ℕ) (f : Located) → OpensArray st n first → Row first ts b mid
-    → length ts < n → IsShown any_input mid f → IsShown any_input st f
-element_shown st first mid n ts b f o row less shown P d around meant h =
+    → length ts < n → IsShown mid f → IsShown st f
+element_shown st first mid n ts b f o row less shown P d around h =
     let e = o.data_ in
     content_shows st o.code o.width o.mid n e.content e.mid f P d around h o.begun o.announced e.header e.room
     (λ inner begun. by_start inner begun e.starts)
@@ -203,7 +203,7 @@ element_shown st first mid n ts b f o row less shown P d around meant h =
         (behind_rest x d inner begun)
         (to_element n d (bytes_open start) (bytes_open m) (bytes_open mid) ds c (length ts) x.took.few
         (record { front = x.took.own; is = past_bytes (taken x d inner begun); spelled = x.took.spelled }) less (items_row x d inner begun))
-        (shown Q (d + level_of (length ds) c) inner tt faces)
+        (shown Q (d + level_of (length ds) c) inner faces)
 
 -- nothing is left over in an array without bytes
 empty_closed : (content : ℕ) (m : State) (e : Error) → content ≡ 0 → CloseFault InArray (in_container InArray 0 content m) e → ⊥
@@ -215,8 +215,8 @@ empty_closed content m e none (bytes_left_over open_ no_items_ some err) = some 
 -- An array that isn't closed behind all its items.
 array_closing_shown : (st first last : State) (n : ℕ) (ts : List Term) (b : List ℕ) (f : Located) → OpensArray st n first
     → Row first ts b last
-    → length ts ≡ n → Here (CloseFault InArray) last f → IsShown any_input st f
-array_closing_shown st first last n ts b f o row all fault P d around meant h =
+    → length ts ≡ n → Here (CloseFault InArray) last f → IsShown st f
+array_closing_shown st first last n ts b f o row all fault P d around h =
     let e = o.data_ in
     content_shows st o.code o.width o.mid n e.content e.mid f P d around h o.begun o.announced e.header e.room
     (λ inner begun. by_start inner begun e.starts)
@@ -249,23 +249,16 @@ array_closing_shown st first last n ts b f o row all fault P d around meant h =
         let x = sharing ds c n ts b (in_container InArray 0 o.data_.content o.data_.mid) m first last t is r in
         end_shows x d inner begun f room all fault
 
-pub array_shown : {A : Type 0} (means : Standing → Term → A → Type 0) (fault : State → Located → Type 0) (inputs : Inputs) (e : Error)
-    → TellsArrays inputs e → AreShown inputs e fault → AreShown inputs e (ItemsFault array_opening means fault)
-array_shown means fault any_input e other shown st f is (unopened h) P d around ahead faces =
-    array_unopened_shown st f (subst IsOfNoConstructor (sym is) other) h P d around ahead faces
-array_shown means fault any_input e other shown st f is (at_item {n} {first} o h) P d around ahead faces =
+pub array_shown : {A : Type 0} (means : Standing → Term → A → Type 0) (fault : State → Located → Type 0) (e : Error)
+    → AreShown e fault → AreShown e (ItemsFault array_opening means fault)
+array_shown means fault e shown st f is (unopened h) P d around faces = array_unopened_shown st f h P d around faces
+array_shown means fault e shown st f is (at_item {n} {first} o h) P d around faces =
     let t = each_taken means first h.before h.mid h.each in
     element_shown st first h.mid n t.terms t.bytes f o t.row (omega (
       arith,
       t.long,
       h.fewer,
-    )) (shown h.mid f is h.named) P d around ahead faces
-array_shown means fault any_input e other shown st f is (unclosed {n} {first} {vs} {last} o h fault_) P d around ahead faces =
+    )) (shown h.mid f is h.named) P d around faces
+array_shown means fault e shown st f is (unclosed {n} {first} {vs} {last} o h fault_) P d around faces =
     let t = each_taken means first vs last h.each in
-    array_closing_shown st first last n t.terms t.bytes f o t.row (t.long ∙ h.long) fault_ P d around ahead faces
-array_shown means fault without_arrays e other shown st f is (unopened h) P d around ahead faces =
-    none_unopened_shown st f h P d around ahead faces
-array_shown means fault without_arrays e other shown st f is (at_item {n} {first} o h) P d around ahead faces =
-    absurd (no_array_there st o.code o.width o.mid ahead o.begun o.announced)
-array_shown means fault without_arrays e other shown st f is (unclosed {n} {first} {vs} {last} o h fault_) P d around ahead faces =
-    absurd (no_array_there st o.code o.width o.mid ahead o.begun o.announced)
+    array_closing_shown st first last n t.terms t.bytes f o t.row (t.long ∙ h.long) fault_ P d around faces

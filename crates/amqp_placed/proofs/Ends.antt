@@ -11,7 +11,7 @@ use Rattle.amqp_decoder.specs.Steps.{SizeError, cut, wrong, past, asked_in}
 use Rattle.amqp_decoder.specs.Containers.{Opens, EndFault, other_place, nothing_open, items_left, CloseFault, not_at_end, bytes_left_over}
 use Rattle.amqp_decoder.specs.Items.{Row}
 use Rattle.amqp_decoder.specs.Places.{Located, Here}
-use Rattle.amqp_placed.specs.Facing.{up_to, bytes_open, IsAround, IsNext, Faces, IsShown, Inputs}
+use Rattle.amqp_placed.specs.Facing.{up_to, bytes_open, IsAround, IsNext, Faces, IsShown}
 use Rattle.amqp_placed.proofs.Past.{past_bound}
 use Rattle.amqp_placed.proofs.Here.{none_some, wrong_as, here_shows, shared_begins, next_end}
 use Rattle.amqp_placed.proofs.Inside.{in_row, inside_shown}
@@ -54,19 +54,19 @@ close_wrong place st l e P d around bound h (bytes_left_over open_ none some err
     (next_end st.top.items st.top.shared P none h.next) h.is_around err
 
 -- A container that isn't closed where its size bounds it.
-pub close_shown : (inputs : Inputs) (place : Place) (st : State) (l : ℕ) (f : Located) → bound_of st.top ≡ Some l
+pub close_shown : (place : Place) (st : State) (l : ℕ) (f : Located) → bound_of st.top ≡ Some l
     → Here (CloseFault place) st f
-    → IsShown inputs st f
-close_shown inputs place st l f bound (fault, is) P d around meant h =
+    → IsShown st f
+close_shown place st l f bound (fault, is) P d around h =
     here_shows st f P d around is (close_wrong place st l f.error P d around bound h fault)
 
 -- behind some of its items
-pub closing_shown : (inputs : Inputs) (kind : Container) → (kind ≡ array → ⊥)
+pub closing_shown : (kind : Container) → (kind ≡ array → ⊥)
     → (place : Place) (st first mid : State) (n : ℕ) (ts : List Term) (b : List ℕ)
-    (f : Located) → Opens kind st n first → Row first ts b mid → length ts ≤ n → Here (CloseFault place) mid f → IsShown inputs st f
-closing_shown inputs kind other place st first mid n ts b f o row few fault =
+    (f : Located) → Opens kind st n first → Row first ts b mid → length ts ≤ n → Here (CloseFault place) mid f → IsShown st f
+closing_shown kind other place st first mid n ts b f o row few fault =
     let own : first.top.shared ≡ None = ap (λ (x : State). x.top.shared) o.data_.entered in
     let r = in_row ts b first mid own row in
     let bound : bound_of mid.top ≡ Some _ =
     past_bound r.past ∙ ap (λ x. lower x (length b)) (ap (λ (x : State). bound_of x.top) o.data_.entered) in
-    inside_shown inputs kind other st first mid n ts b f o row few (close_shown inputs place mid _ f bound fault)
+    inside_shown kind other st first mid n ts b f o row few (close_shown place mid _ f bound fault)

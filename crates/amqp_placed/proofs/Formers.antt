@@ -13,7 +13,7 @@ use Rattle.amqp_codec.specs.OptionMeaning.{OptionFault}
 use Rattle.amqp_codec.specs.EitherMeaning.{EitherFault, no_value, in_first, in_second}
 use Rattle.amqp_codec.specs.Members as members
 use Rattle.amqp_codec.specs.Members.{Members, MemberFault, no_member, in_member}
-use Rattle.amqp_placed.specs.Facing.{AreShown, Inputs}
+use Rattle.amqp_placed.specs.Facing.{AreShown}
 use Rattle.amqp_placed.proofs.Here.{begin_shown, peeked_shown}
 use Rattle.amqp_placed.proofs.Descriptions.{no_member_shown, described_shown}
 
@@ -33,20 +33,20 @@ described_ends st inner last d t e o next (items_left open_ some is) =
 abbrev pub AreTerms : {V : Type 0} → Members V → Type 0
 AreTerms {V} m = (i : ℕ) (inner : State) (v : V) (last : State) → m.reads i inner v last → (t : Term) × Next inner t last
 
-module _ (inputs : Inputs) (e : Error) where
-  pub option_shown : (fault : State → Located → Type 0) → AreShown inputs e fault → AreShown inputs e (OptionFault fault)
-  option_shown fault shown st f is (inl h) = begin_shown inputs st f h
-  option_shown fault shown st f is (inr (c, mid, peeks, some, h)) = peeked_shown inputs st c mid f peeks (shown mid f is h)
+module _ (e : Error) where
+  pub option_shown : (fault : State → Located → Type 0) → AreShown e fault → AreShown e (OptionFault fault)
+  option_shown fault shown st f is (inl h) = begin_shown st f h
+  option_shown fault shown st f is (inr (c, mid, peeks, some, h)) = peeked_shown st c mid f peeks (shown mid f is h)
 
-  pub either_shown : (is_first : ℕ → Bool) (a b : Faults) → AreShown inputs e a.fault → AreShown inputs e b.fault
-      → AreShown inputs e (EitherFault is_first a b)
-  either_shown is_first a b shown other st f is (no_value h) = begin_shown inputs st f h
-  either_shown is_first a b shown other st f is (in_first {c} {mid} peeks code h) = peeked_shown inputs st c mid f peeks (shown mid f is h)
-  either_shown is_first a b shown other st f is (in_second {c} {mid} peeks code h) = peeked_shown inputs st c mid f peeks (other mid f is h)
+  pub either_shown : (is_first : ℕ → Bool) (a b : Faults) → AreShown e a.fault → AreShown e b.fault
+      → AreShown e (EitherFault is_first a b)
+  either_shown is_first a b shown other st f is (no_value h) = begin_shown st f h
+  either_shown is_first a b shown other st f is (in_first {c} {mid} peeks code h) = peeked_shown st c mid f peeks (shown mid f is h)
+  either_shown is_first a b shown other st f is (in_second {c} {mid} peeks code h) = peeked_shown st c mid f peeks (other mid f is h)
 
-  pub member_shown : {V : Type 0} (m : Members V) → AreTerms m → ((i : ℕ) → AreShown inputs e (m.faults i).fault)
-      → AreShown inputs e (MemberFault m)
-  member_shown m terms shown st f is (no_member {ms} names h) = no_member_shown inputs ms st f h
-  member_shown m terms shown st f is (in_member {d} {i} {inner} o at h) = described_shown inputs st inner d f o (shown i inner f is h)
+  pub member_shown : {V : Type 0} (m : Members V) → AreTerms m → ((i : ℕ) → AreShown e (m.faults i).fault)
+      → AreShown e (MemberFault m)
+  member_shown m terms shown st f is (no_member {ms} names h) = no_member_shown ms st f h
+  member_shown m terms shown st f is (in_member {d} {i} {inner} o at h) = described_shown st inner d f o (shown i inner f is h)
   member_shown m terms shown st f is (members.not_ended {d} {i} {inner} {last} {v} o at read h) =
       let (t, next) = terms i inner v last read in absurd (described_ends st inner last d t f.error o next h.0)

@@ -12,41 +12,41 @@ use Rattle.amqp_kinds.specs.KindReading.{KindFault, no_value, of_kind}
 use Rattle.amqp_kinds.specs.KindMembers.{KindMembers, no_more, member, faults_at}
 use Rattle.amqp_message_headers.specs.MessageIds.{id_members, id_place, message_id_type}
 use Rattle.amqp_message_headers.specs.Tables.{header, properties}
-use Rattle.amqp_placed.specs.Facing.{AreShown, Inputs}
+use Rattle.amqp_placed.specs.Facing.{AreShown}
 use Rattle.amqp_placed.proofs.Here.{begin_shown, peeked_shown}
 use Rattle.amqp_placed.proofs.Primitives.{primitive_shown}
 use Rattle.amqp_placed.proofs.Composites.{composite_shown}
 
 -- Of each primitive type of a sum, that its faults are shown.
-abbrev pub KindsShown : {V : Type 0} → Inputs → Error → KindMembers V → Type 0
-KindsShown inputs e no_more = Unit {0}
-KindsShown inputs e (member m make ms) = AreShown inputs e m.type.faults.fault × KindsShown inputs e ms
+abbrev pub KindsShown : {V : Type 0} → Error → KindMembers V → Type 0
+KindsShown e no_more = Unit {0}
+KindsShown e (member m make ms) = AreShown e m.type.faults.fault × KindsShown e ms
 
-module _ (inputs : Inputs) (e : Error) where
-  kinds_shown : {V : Type 0} (ms : KindMembers V) → KindsShown inputs e ms → (i : ℕ) → AreShown inputs e (faults_at ms i).fault
+module _ (e : Error) where
+  kinds_shown : {V : Type 0} (ms : KindMembers V) → KindsShown e ms → (i : ℕ) → AreShown e (faults_at ms i).fault
   kinds_shown no_more shown i st f is h = absurd h
   kinds_shown (member m make ms) shown zero st f is h = shown.0 st f is h
   kinds_shown (member m make ms) shown (suc i) st f is h = kinds_shown ms shown.1 i st f is h
 
-  pub kind_fault_shown : (faults : Kind → Faults) → ((k : Kind) → AreShown inputs e (faults k).fault) → AreShown inputs e (KindFault faults)
-  kind_fault_shown faults shown st f is (no_value h) = begin_shown inputs st f h
+  pub kind_fault_shown : (faults : Kind → Faults) → ((k : Kind) → AreShown e (faults k).fault) → AreShown e (KindFault faults)
+  kind_fault_shown faults shown st f is (no_value h) = begin_shown st f h
   kind_fault_shown faults shown st f is (of_kind {c} {mid} peeks h) =
-      peeked_shown inputs st c mid f peeks (shown (kind_at c) mid f is h)
+      peeked_shown st c mid f peeks (shown (kind_at c) mid f is h)
 
-  basic : (k : ℕ) → AreShown inputs e (Here (PrimitiveFault k))
-  basic k st f is = primitive_shown inputs k st f
+  basic : (k : ℕ) → AreShown e (Here (PrimitiveFault k))
+  basic k st f is = primitive_shown k st f
 
-  pub message_id_shown : AreShown inputs e message_id_type.faults.fault
+  pub message_id_shown : AreShown e message_id_type.faults.fault
   message_id_shown =
       kind_fault_shown (λ k. faults_at id_members (id_place k))
       (λ k. kinds_shown id_members (basic ulongs, (basic uuids, (basic binaries, (basic strings, tt)))) (id_place k))
 
-  pub header_shown : AreShown inputs e (composite header).faults.fault
-  header_shown = composite_shown inputs e header (basic booleans, (basic ubytes, (basic uints, (basic booleans, (basic uints, tt)))))
+  pub header_shown : AreShown e (composite header).faults.fault
+  header_shown = composite_shown e header (basic booleans, (basic ubytes, (basic uints, (basic booleans, (basic uints, tt)))))
 
-  pub properties_shown : AreShown inputs e (composite properties).faults.fault
+  pub properties_shown : AreShown e (composite properties).faults.fault
   properties_shown =
-      composite_shown inputs e properties (
+      composite_shown e properties (
         message_id_shown,
         (
           basic binaries,

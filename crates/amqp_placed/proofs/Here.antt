@@ -17,8 +17,7 @@ use Rattle.amqp_decoder.specs.Steps.{Lacks, cut_open, past_limit, cut_inside, to
 use Rattle.amqp_decoder.specs.Rooms.{HasFlatItems}
 use Rattle.amqp_decoder.specs.Reading.{IsFirst, ReadsCode, BeginFault, missing, no_code, one_too_many, after_peek, PeeksCode}
 use Rattle.amqp_decoder.specs.Places.{Located, Here}
-use Rattle.amqp_placed.specs.Facing.{up_to, bytes_open, IsAround, IsUnderShared, IsNext, Faces, Shows, IsShown, Inputs, any_input}
-use Rattle.amqp_placed.specs.Facing.{without_arrays, IsAhead}
+use Rattle.amqp_placed.specs.Facing.{up_to, bytes_open, IsAround, IsUnderShared, IsNext, Faces, Shows, IsShown}
 use Rattle.amqp_placed.proofs.Past.{past_code, past_bytes}
 use Rattle.amqp_placed.proofs.Codes.{code_wrong}
 
@@ -197,8 +196,8 @@ begin_wrong st e P d around h (no_code item own lacks) =
 begin_wrong st e P d around h (one_too_many {c} {m} code full is) = absurd (full (subst (λ o. Has o (counted_in st.top.shared c))
     (sym h.uncounted) tt))
 
-pub begin_shown : (inputs : Inputs) (st : State) (f : Located) → Here BeginFault st f → IsShown inputs st f
-begin_shown inputs st f (fault, is) P d around meant h = here_shows st f P d around is (begin_wrong st f.error P d around h fault)
+pub begin_shown : (st : State) (f : Located) → Here BeginFault st f → IsShown st f
+begin_shown st f (fault, is) P d around h = here_shows st f P d around is (begin_wrong st f.error P d around h fault)
 
 -- A value that can hold others isn't at a greater depth than it may be.
 pub deep_here : (st : State) (P : Piece) (d : ℕ) (around : Around) → Faces st P d around → Has st.top.items 1
@@ -224,13 +223,9 @@ looked_around n st unbounded h = h
 looked_around n st whole_one h = h
 looked_around n st cut_one h = h
 
-looked_ahead : (inputs : Inputs) (n : ℕ) (st : State) → IsAhead inputs st → IsAhead inputs (after_look n st)
-looked_ahead any_input n st h = h
-looked_ahead without_arrays n st h = h
-
-looked_shown : (inputs : Inputs) (n : ℕ) (st : State) (f : Located) → IsShown inputs (after_look n st) f → IsShown inputs st f
-looked_shown inputs n st f shown P d around meant h =
-    let s = shown P d around (looked_ahead inputs n st meant) (record {
+looked_shown : (n : ℕ) (st : State) (f : Located) → IsShown (after_look n st) f → IsShown st f
+looked_shown n st f shown P d around h =
+    let s = shown P d around (record {
       nesting = h.nesting;
       uncounted = h.uncounted;
       unlimited = h.unlimited;
@@ -241,10 +236,10 @@ looked_shown inputs n st f shown P d around meant h =
     }) in
     record { left = s.left; place = s.place; stands = s.stands }
 
-pub peeked_shown : (inputs : Inputs) (st : State) (c : ℕ) (mid : State) (f : Located) → PeeksCode st c mid → IsShown inputs mid f
-    → IsShown inputs st f
-peeked_shown inputs st c mid f p shown = by_shared st.top.shared (subst (λ x. IsShown inputs x f) p.kept shown)
+pub peeked_shown : (st : State) (c : ℕ) (mid : State) (f : Located) → PeeksCode st c mid → IsShown mid f
+    → IsShown st f
+peeked_shown st c mid f p shown = by_shared st.top.shared (subst (λ x. IsShown x f) p.kept shown)
   where
-    by_shared : (o : Option (List Descriptor × ℕ)) → IsShown inputs (after_peek o st) f → IsShown inputs st f
-    by_shared None s = looked_shown inputs 1 st f s
+    by_shared : (o : Option (List Descriptor × ℕ)) → IsShown (after_peek o st) f → IsShown st f
+    by_shared None s = looked_shown 1 st f s
     by_shared (Some x) s = s

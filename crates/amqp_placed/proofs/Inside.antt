@@ -18,9 +18,8 @@ use Rattle.amqp_decoder.specs.Places.{Located}
 use Rattle.amqp_decoder.proofs.Steps.{lower_none}
 use Rattle.amqp_decoder.proofs.ReadPrimitives.{lower-lower}
 use Rattle.amqp_decoder.proofs.Rooms.{room_row, room_inside}
-use Rattle.amqp_placed.specs.Facing.{up_to, bytes_open, IsAround, IsNext, Faces, Shows, IsShown, Inputs, IsMeant, IsAhead}
+use Rattle.amqp_placed.specs.Facing.{up_to, bytes_open, IsAround, IsNext, Faces, Shows, IsShown}
 use Rattle.amqp_placed.proofs.Past.{Past, past_code, past_taken, past_value, past_none, past_both, has_bound, past_bytes, lowered_bound}
-use Rattle.amqp_placed.proofs.Past.{ahead_there, meant_there, past_meant}
 use Rattle.amqp_placed.proofs.Past.{lowered_sum, past_length, past_around, past_unlimited}
 use Rattle.amqp_placed.proofs.Here.{none_some}
 use Rattle.amqp_placed.proofs.Onward.{onward_shows}
@@ -135,12 +134,12 @@ within kind other n k d few = go (n - k) refl
     }
 
 -- What is shown behind some items of a container is shown of the container.
-pub inside_shows : (inputs : Inputs) (kind : Container) → (kind ≡ array → ⊥)
+pub inside_shows : (kind : Container) → (kind ≡ array → ⊥)
     → (st first mid : State) (n : ℕ) (ts : List Term) (b : List ℕ) (f : Located)
     → Opens kind st n first → Row first ts b mid → length ts ≤ n
-    → ((P : Piece) (d : ℕ) (around : Around) → IsAt kind n (length ts) P → IsAhead inputs mid → Faces mid P d around
-    → Shows mid f P d around) → IsShown inputs st f
-inside_shows inputs kind other st first mid n ts b f o row few shown P d around meant h =
+    → ((P : Piece) (d : ℕ) (around : Around) → IsAt kind n (length ts) P → Faces mid P d around
+    → Shows mid f P d around) → IsShown st f
+inside_shows kind other st first mid n ts b f o row few shown P d around h =
     let x = entering kind o.width o.code P d around st o.mid h o.begun o.announced in
     let e = o.data_ in
     let head = e.header in
@@ -166,9 +165,6 @@ inside_shows inputs kind other st first mid n ts b f o row few shown P d around 
     ap length r.past.saved ∙ ap (λ (x : State). length x.saved) e.entered ∙ ap suc (ap length past1.saved ∙ ap length past0.saved) in
     let left : mid.top.items ≡ Some (n - length ts) =
     r.items ∙ ap (λ x. lower x (length ts)) (ap (λ (x : State). x.top.items) e.entered ∙ items_in kind n) in
-    let there : IsAhead inputs mid = ahead_there inputs st mid meant (λ none. r.shared)
-    (past_meant r.past inputs (subst (λ (x : State). IsMeant inputs x.rest) (sym e.entered)
-    (past_meant past1 inputs (past_meant past0 inputs (meant_there inputs st meant))))) in
     let w = within kind other n (length ts) d few in
     let faces : Faces mid w.piece (suc d) (outermost around k.inner) = record {
       nesting = r.past.nesting ∙ ap (λ (x : State). x.nesting) e.entered ∙ past1.nesting ∙ past0.nesting ∙ h.nesting;
@@ -197,10 +193,10 @@ inside_shows inputs kind other st first mid n ts b f o row few shown P d around 
       length-append b (bytes_open mid),
     ) in
     onward_shows st mid f around k.inner P w.piece d (suc d) k.behind sum step (shown w.piece (suc d)
-    (outermost around k.inner) w.is there faces)
+    (outermost around k.inner) w.is faces)
 
-pub inside_shown : (inputs : Inputs) (kind : Container) → (kind ≡ array → ⊥)
+pub inside_shown : (kind : Container) → (kind ≡ array → ⊥)
     → (st first mid : State) (n : ℕ) (ts : List Term) (b : List ℕ) (f : Located)
-    → Opens kind st n first → Row first ts b mid → length ts ≤ n → IsShown inputs mid f → IsShown inputs st f
-inside_shown inputs kind other st first mid n ts b f o row few shown =
-    inside_shows inputs kind other st first mid n ts b f o row few (λ P d around at meant faces. shown P d around meant faces)
+    → Opens kind st n first → Row first ts b mid → length ts ≤ n → IsShown mid f → IsShown st f
+inside_shown kind other st first mid n ts b f o row few shown =
+    inside_shows kind other st first mid n ts b f o row few (λ P d around at faces. shown P d around faces)

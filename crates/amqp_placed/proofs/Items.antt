@@ -16,7 +16,7 @@ use Rattle.amqp_codec.specs.ItemsReading.{ReadsEach, ItemsFault, unopened, at_it
 use Rattle.amqp_codec.specs.MapReading as maps
 use Rattle.amqp_codec.specs.MapReading.{Pairs, PairsFault, at_key, twice, told_twice, at_value, MapFault, at_pair}
 use Rattle.amqp_codec.specs.VecType.{list_opening}
-use Rattle.amqp_placed.specs.Facing.{AreShown, Inputs}
+use Rattle.amqp_placed.specs.Facing.{AreShown}
 use Rattle.amqp_placed.proofs.Opening.{open_shown}
 use Rattle.amqp_placed.proofs.Inside.{inside_shown}
 use Rattle.amqp_placed.proofs.Ends.{closing_shown}
@@ -59,16 +59,16 @@ pub each_taken : {A : Type 0} (means : Standing → Term → A → Type 0) (st :
 each_taken means st [] b h = none_taken st b h
 each_taken means st (v ∷ vs) b (mid, h, k) = one_taken means st mid b v (length vs) h (each_taken means mid vs b k)
 
-pub items_shown : {A : Type 0} (means : Standing → Term → A → Type 0) (fault : State → Located → Type 0) (inputs : Inputs) (e : Error)
-    → AreShown inputs e fault
-    → AreShown inputs e (ItemsFault list_opening means fault)
-items_shown means fault inputs e shown st f is (unopened h) = open_shown inputs list no_array st f h
-items_shown means fault inputs e shown st f is (at_item {n} {first} o h) =
+pub items_shown : {A : Type 0} (means : Standing → Term → A → Type 0) (fault : State → Located → Type 0) (e : Error)
+    → AreShown e fault
+    → AreShown e (ItemsFault list_opening means fault)
+items_shown means fault e shown st f is (unopened h) = open_shown list no_array st f h
+items_shown means fault e shown st f is (at_item {n} {first} o h) =
     let t = each_taken means first h.before h.mid h.each in
-    inside_shown inputs list no_array st first h.mid n t.terms t.bytes f o t.row (omega (arith, t.long, h.fewer)) (shown h.mid f is h.named)
-items_shown means fault inputs e shown st f is (unclosed {n} {first} {vs} {last} o h fault_) =
+    inside_shown list no_array st first h.mid n t.terms t.bytes f o t.row (omega (arith, t.long, h.fewer)) (shown h.mid f is h.named)
+items_shown means fault e shown st f is (unclosed {n} {first} {vs} {last} o h fault_) =
     let t = each_taken means first vs last h.each in
-    closing_shown inputs list no_array InList st first last n t.terms t.bytes f o t.row (omega (arith, t.long, h.long)) fault_
+    closing_shown list no_array InList st first last n t.terms t.bytes f o t.row (omega (arith, t.long, h.long)) fault_
 
 module _ {K V : Type 0} (key : TermType K) (value : TermType V) where
   pub pairs_taken : (st : State) (ps : List (K × V)) (b : State) → Pairs key value st ps b → Taken st b (2 * length ps)
@@ -83,28 +83,28 @@ module _ {K V : Type 0} (key : TermType K) (value : TermType V) where
   not_array e = cc
 
   -- but for equal keys, which may be told behind the last pair
-  pub map_shown : (inputs : Inputs) (e : Error) → (e ≡ DuplicateKey → ⊥) → AreShown inputs e key.faults.fault
-      → AreShown inputs e value.faults.fault
-      → AreShown inputs e (MapFault key value)
-  map_shown inputs e other keys values st f is (maps.unopened h) = open_shown inputs map not_array st f h
-  map_shown inputs e other keys values st f is (at_pair {n} {first} o (at_key ps mid h fault)) =
+  pub map_shown : (e : Error) → (e ≡ DuplicateKey → ⊥) → AreShown e key.faults.fault
+      → AreShown e value.faults.fault
+      → AreShown e (MapFault key value)
+  map_shown e other keys values st f is (maps.unopened h) = open_shown map not_array st f h
+  map_shown e other keys values st f is (at_pair {n} {first} o (at_key ps mid h fault)) =
       let t = pairs_taken first ps mid h.each in
-      inside_shown inputs map not_array st first mid (2 * n) t.terms t.bytes f o t.row (omega (
+      inside_shown map not_array st first mid (2 * n) t.terms t.bytes f o t.row (omega (
         arith,
         t.long,
         h.fewer,
       )) (keys mid f is fault)
-  map_shown inputs e other keys values st f is (at_pair {n} {first} o (twice ps mid after k h others read known error place)) =
+  map_shown e other keys values st f is (at_pair {n} {first} o (twice ps mid after k h others read known error place)) =
       absurd (other (sym is ∙ error))
-  map_shown inputs e other keys values st f is (at_pair {n} {first} o
+  map_shown e other keys values st f is (at_pair {n} {first} o
       (told_twice all b ps mid after k each h others read known error place)) =
       absurd (other (sym is ∙ error))
-  map_shown inputs e other keys values st f is (at_pair {n} {first} o (at_value ps mid after k h read fault)) =
+  map_shown e other keys values st f is (at_pair {n} {first} o (at_value ps mid after k h read fault)) =
       let t = pairs_taken first ps mid h.each in
       let behind = one_behind first mid after (2 * length ps) t
       (one_taken key.means mid after after k 0 read (none_taken after after refl)) in
-      inside_shown inputs map not_array st first after (2 * n) behind.terms behind.bytes f o behind.row
+      inside_shown map not_array st first after (2 * n) behind.terms behind.bytes f o behind.row
       (omega (arith, behind.long, h.fewer)) (values after f is fault)
-  map_shown inputs e other keys values st f is (maps.unclosed {n} {first} {ps} {last} o h fault) =
+  map_shown e other keys values st f is (maps.unclosed {n} {first} {ps} {last} o h fault) =
       let t = pairs_taken first ps last h.each in
-      closing_shown inputs map not_array InMap st first last (2 * n) t.terms t.bytes f o t.row (omega (arith, t.long, h.long)) fault
+      closing_shown map not_array InMap st first last (2 * n) t.terms t.bytes f o t.row (omega (arith, t.long, h.long)) fault

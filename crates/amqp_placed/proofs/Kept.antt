@@ -19,7 +19,7 @@ use Rattle.amqp_decoder.specs.Terms.{LacksAnnounced, wrong_size, wrong_term, ter
 use Rattle.amqp_decoder.specs.Terms.{spelling_left}
 use Rattle.amqp_decoder.specs.Terms.{TermFault as NoTermRead, missing, in_array, misspelled, term_fault_left}
 use Rattle.amqp_decoder.specs.Places.{Located, At}
-use Rattle.amqp_placed.specs.Facing.{bytes_open, IsUnderShared, Faces, Shows, AreShown, Inputs}
+use Rattle.amqp_placed.specs.Facing.{bytes_open, IsUnderShared, Faces, Shows, AreShown}
 use Rattle.amqp_placed.specs.Shown.{IsOfNoEnd}
 use Rattle.amqp_placed.proofs.Past.{past_taken, past_both, past_bytes, past_length, past_around, past_unlimited}
 use Rattle.amqp_placed.proofs.Here.{wrong_as, deep_here, here_shows, next_left, own_unknown, begin_wrong}
@@ -56,9 +56,9 @@ module _ (st : State) (f : Located) (P : Piece) (d : ℕ) (around : Around) (h :
     (other : IsOfNoEnd f.error) where
   -- behind some descriptors of its own
   constructor_found : (fault : ConstructorFault st f.error) → f.left ≡ constructor_left st f.error fault → Shows st f P d around
-  constructor_found (no_code ds own_ m marks took lacks) is =
+  constructor_found (no_code ds own_ m few marks took lacks) is =
       absurd (lacks_not 1 m f.error (past_unlimited (past_taken st own_ m took) h.unlimited) lacks other)
-  constructor_found (no_mark ds m t fault) is =
+  constructor_found (no_mark ds m few t fault) is =
       let past = past_taken st (t.own ++ 0 ∷ []) m t.took in
       let bytes : bytes_open st ≡ t.own ++ 0 ∷ bytes_open m = past_bytes past ∙ append_assoc t.own (0 ∷ []) (bytes_open m) in
       shows_found st f P d around (length (bytes_open m)) other
@@ -69,7 +69,7 @@ module _ (st : State) (f : Located) (P : Piece) (d : ℕ) (around : Around) (h :
       (any_around f.error unbounded around a_descriptor (d + length ds) (bytes_open m) other
       (descriptor_wrong m f.error (d + length ds) around (past_around past around h.is_around) (past_unlimited past h.unlimited) fault)))))
       (omega (arith, is, ap length bytes, length-append t.own (0 ∷ bytes_open m), past_length past, length-append t.own (0 ∷ [])))
-  constructor_found (too_many ds m t many error) is =
+  constructor_found (too_many ds m many t error) is =
       let past = past_taken st (t.own ++ 0 ∷ []) m t.took in
       let bytes : bytes_open st ≡ t.own ++ 0 ∷ bytes_open m = past_bytes past ∙ append_assoc t.own (0 ∷ []) (bytes_open m) in
       shows_found st f P d around (suc (length (bytes_open m))) other
@@ -78,7 +78,7 @@ module _ (st : State) (f : Located) (P : Piece) (d : ℕ) (around : Around) (h :
       (wrong_as f.error Depth unbounded Q (d + length ds) (0 ∷ bytes_open m) error
       (inl (inl (own_marked Q (0 ∷ bytes_open m) (bytes_open m) o refl, omega (arith, many)))))))
       (omega (arith, is, ap length bytes, length-append t.own (0 ∷ bytes_open m), past_length past, length-append t.own (0 ∷ [])))
-  constructor_found (no_known_code ds c m t some none error) is =
+  constructor_found (no_known_code ds c m few t some none error) is =
       let past = past_taken st (t.own ++ c ∷ []) m t.took in
       let bytes : bytes_open st ≡ t.own ++ c ∷ bytes_open m = past_bytes past ∙ append_assoc t.own (c ∷ []) (bytes_open m) in
       shows_found st f P d around (suc (length (bytes_open m))) other
@@ -115,15 +115,15 @@ not_flat : (o : Option (List Descriptor × ℕ)) → o ≡ None → HasFlatItems
 not_flat o own flat = subst HasFlatItems own flat
 
 -- A term of any kind that isn't read.
-pub term_shown : (inputs : Inputs) (e : Error) → IsOfNoEnd e → AreShown inputs e (At term_fault_left)
-term_shown inputs e other st f is (missing none error, place) P d around meant h =
+pub term_shown : (e : Error) → IsOfNoEnd e → AreShown e (At term_fault_left)
+term_shown e other st f is (missing none error, place) P d around h =
     here_shows st f P d around place (begin_wrong st f.error P d around h (reading.missing none error))
-term_shown inputs e other st f is (in_array item shared error, place) P d around meant h =
+term_shown e other st f is (in_array item shared error, place) P d around h =
     here_shows st f P d around place (wrong_as f.error LazyInArray around P d (bytes_open st) error
     (element_shared st.top.shared P shared (next_left st.top.items st.top.shared P item h.next)))
-term_shown inputs e other st f is (misspelled item own fault, place) P d around meant h =
+term_shown e other st f is (misspelled item own fault, place) P d around h =
     let is_own : IsOwn P = subst (λ o. IsUnderShared o P) own (next_left st.top.items st.top.shared P item h.next) in
     spelling_found st f P d around h is_own (subst IsOfNoEnd (sym is) other)
     (deep_here st P d around h item (not_flat st.top.shared own)) fault place
-term_shown inputs e other st f is (terms.too_many took full error, place) P d around meant h =
+term_shown e other st f is (terms.too_many took full error, place) P d around h =
     absurd (full (subst (λ o. Has o (weight_at st took.term)) (sym h.uncounted) tt))

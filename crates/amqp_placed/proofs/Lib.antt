@@ -18,7 +18,7 @@ mod Described
 mod Constructors
 mod Arrays
 mod Elements
-mod Bounds
+mod Unopened
 mod Found
 mod TermFaults
 mod Kept

@@ -10,7 +10,7 @@ use Rattle.amqp_wire.specs.Limits.{limit_of}
 use Rattle.amqp_decoder.proofs.Rooms.{room_at_top}
 use Rattle.amqp_codec.specs.Reading.{start_within, IsGreatest}
 use Rattle.amqp_placed.proofs.Here.{outermost_none}
-use Rattle.amqp_placed.specs.Facing.{bytes_open, Faces, Shows, IsShown, Inputs, any_input, without_arrays, IsMeant, IsAhead}
+use Rattle.amqp_placed.specs.Facing.{bytes_open, Faces, Shows, IsShown}
 
 outermost_of : (a b c : Around) → outermost (outermost a b) c ≡ outermost a (outermost b c)
 outermost_of unbounded b c = refl
@@ -69,13 +69,9 @@ starts_facing limits input (deep, bytes, items) = record {
   deep = inr (inr (omega arith));
 }
 
-starts_ahead : (inputs : Inputs) (limits : Limits) (input : List ℕ) → IsMeant inputs input → IsAhead inputs (start_within limits input)
-starts_ahead any_input limits input h = h
-starts_ahead without_arrays limits input h = (h, refl)
-
-pub shown_stands : (inputs : Inputs) (limits : Limits) (input : List ℕ) (e : Error) (at left : ℕ) → IsMeant inputs input → IsGreatest limits
-    → IsShown inputs (start_within limits input) (record { error = e; left = left }) → at + left ≡ length input → StandsAt input e at
-shown_stands inputs limits input e at left meant greatest shown sum =
-    let s = shown a_value 0 unbounded (starts_ahead inputs limits input meant) (starts_facing limits input greatest) in
+pub shown_stands : (limits : Limits) (input : List ℕ) (e : Error) (at left : ℕ) → IsGreatest limits
+    → IsShown (start_within limits input) (record { error = e; left = left }) → at + left ≡ length input → StandsAt input e at
+shown_stands limits input e at left greatest shown sum =
+    let s = shown a_value 0 unbounded (starts_facing limits input greatest) in
     let same : s.left ≡ left = omega (arith, s.place) in
     (left, sum, subst (StandsFrom unbounded a_value 0 input e) same s.stands)

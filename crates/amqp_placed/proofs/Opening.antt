@@ -22,7 +22,7 @@ use Rattle.amqp_decoder.specs.Containers.{is_list, IsCount, Counts, ReadsHeader,
 use Rattle.amqp_decoder.specs.Containers.{no_content, EnterFault, no_header, odd_count, no_room, too_deep, OpenFault, not_begun}
 use Rattle.amqp_decoder.specs.Containers.{wrong_code, no_data}
 use Rattle.amqp_decoder.specs.Places.{Located, Here}
-use Rattle.amqp_placed.specs.Facing.{up_to, bytes_open, IsAround, Faces, IsShown, Inputs}
+use Rattle.amqp_placed.specs.Facing.{up_to, bytes_open, IsAround, Faces, IsShown}
 use Rattle.amqp_placed.proofs.Past.{past_code, past_taken, past_bytes, past_around, past_unlimited}
 use Rattle.amqp_placed.proofs.Here.{deep_here, wrong_as, here_shows, lacks_wrong, Coded, code_taken, begin_wrong, other_code_wrong}
 use Rattle.amqp_placed.proofs.Contents.{fewer, least_content, own_content, content_there}
@@ -253,7 +253,7 @@ open_wrong kind other st e P d around h (no_data {c} {width} {m} code is fault) 
     enter_wrong (entering kind width c P d around st m h code is) e other fault
 
 -- A list or a map that isn't opened.
-pub open_shown : (inputs : Inputs) (kind : Container) → (kind ≡ array → ⊥) → (st : State) (f : Located) → Here (OpenFault kind) st f
-    → IsShown inputs st f
-open_shown inputs kind other st f (fault, is) P d around meant h = here_shows st f P d around is
+pub open_shown : (kind : Container) → (kind ≡ array → ⊥) → (st : State) (f : Located) → Here (OpenFault kind) st f
+    → IsShown st f
+open_shown kind other st f (fault, is) P d around h = here_shows st f P d around is
     (open_wrong kind other st f.error P d around h fault)

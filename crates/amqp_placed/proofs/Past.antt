@@ -10,7 +10,7 @@ use Rattle.amqp_decoder.specs.Reading.{ReadsCode}
 use Rattle.amqp_decoder.specs.Primitives.{Stands}
 use Rattle.amqp_decoder.proofs.Steps.{has_none, lower_none}
 use Rattle.amqp_decoder.proofs.ReadPrimitives.{has_add, lower-lower}
-use Rattle.amqp_placed.specs.Facing.{up_to, bytes_open, IsAround, Inputs, any_input, without_arrays, IsMeant, IsAhead}
+use Rattle.amqp_placed.specs.Facing.{up_to, bytes_open, IsAround}
 
 pub record Past (own : List ℕ) (st m : State) : Type 0 where
   pub rest : st.rest ≡ own ++ m.rest
@@ -111,25 +111,7 @@ pub lowered_sum : (o q : Option ℕ) (n l others : ℕ) → o ≡ Some l → Has
 lowered_sum None q n l others none h is = absurd (cc)
 lowered_sum (Some k) q n l others some h is = omega (arith, h, ap (λ x. unwrap_or x 0) is)
 
--- what is meant of an input is meant of what is left of it
-meant_behind : (inputs : Inputs) (own r : List ℕ) → IsMeant inputs (own ++ r) → IsMeant inputs r
-meant_behind any_input own r h = h
-meant_behind without_arrays [] r h = h
-meant_behind without_arrays (x ∷ own) r h = meant_behind without_arrays own r h.2
-
-pub meant_there : (inputs : Inputs) (st : State) → IsAhead inputs st → IsMeant inputs st.rest
-meant_there any_input st h = h
-meant_there without_arrays st h = h.0
-
-pub ahead_there : (inputs : Inputs) (st m : State) → IsAhead inputs st → (st.top.shared ≡ None → m.top.shared ≡ None)
-    → IsMeant inputs m.rest → IsAhead inputs m
-ahead_there any_input st m h own meant = tt
-ahead_there without_arrays st m h own meant = (meant, own h.1)
-
 module _ {own : List ℕ} {st m : State} (h : Past own st m) where
-  pub past_meant : (inputs : Inputs) → IsMeant inputs st.rest → IsMeant inputs m.rest
-  past_meant inputs meant = meant_behind inputs own m.rest (subst (IsMeant inputs) h.rest meant)
-
   pub past_length : length st.rest ≡ length own + length m.rest
   past_length = ap length h.rest ∙ length-append own m.rest
 

@@ -15,8 +15,8 @@ use Rattle.amqp_errors.specs.FieldsType.{fields_type}
 use Rattle.amqp_errors.specs.Tables.{error}
 use Rattle.amqp_delivery.specs.Tables.{outcomes, outcome, delivery_states, delivery_state}
 use Rattle.amqp_performatives.specs.Tables.{opening, begin, flow, transfer, disposition, detach, ending, close}
-use Rattle.amqp_placed.specs.Facing.{AreShown, Inputs}
-use Rattle.amqp_placed.specs.Shown.{FieldsShown, TellsArrays}
+use Rattle.amqp_placed.specs.Facing.{AreShown}
+use Rattle.amqp_placed.specs.Shown.{FieldsShown}
 use Rattle.amqp_placed.proofs.Primitives.{primitive_shown}
 use Rattle.amqp_placed.proofs.Items.{map_shown}
 use Rattle.amqp_placed.proofs.Composites.{composite_shown}
@@ -24,27 +24,27 @@ use Rattle.amqp_placed.proofs.Sums.{restricted_shown, sum_shown}
 use Rattle.amqp_placed.proofs.Several.{multiple_shown}
 use Rattle.amqp_placed.proofs.Values.{value_shown}
 
-module _ (inputs : Inputs) (e : Error) (other : TellsArrays inputs e) (new : e â‰¡ DuplicateKey â†’ âŠ¥) where
-  pub basic : (k : â„•) â†’ AreShown inputs e (Here (PrimitiveFault k))
-  basic k st f is = primitive_shown inputs k st f
+module _ (e : Error) (new : e â‰¡ DuplicateKey â†’ âŠ¥) where
+  pub basic : (k : â„•) â†’ AreShown e (Here (PrimitiveFault k))
+  basic k st f is = primitive_shown k st f
 
-  pub several : AreShown inputs e (multiple_faults symbol_type).fault
-  several = multiple_shown inputs e other symbol_type (basic symbols)
+  pub several : AreShown e (multiple_faults symbol_type).fault
+  several = multiple_shown e symbol_type (basic symbols)
 
-  pub held : AreShown inputs e fields_type.faults.fault
-  held = map_shown symbol_type value_type inputs e new (basic symbols) (value_shown inputs e other new)
+  pub held : AreShown e fields_type.faults.fault
+  held = map_shown symbol_type value_type e new (basic symbols) (value_shown e new)
 
-  pub error_shown : AreShown inputs e (composite error).faults.fault
-  error_shown = composite_shown inputs e error (basic symbols, (basic strings, (held, tt)))
+  pub error_shown : AreShown e (composite error).faults.fault
+  error_shown = composite_shown e error (basic symbols, (basic strings, (held, tt)))
 
-  pub outcome_shown : AreShown inputs e outcome.faults.fault
+  pub outcome_shown : AreShown e outcome.faults.fault
   outcome_shown =
-      sum_shown inputs e outcomes
+      sum_shown e outcomes
       (tt, ((error_shown, tt), (tt, ((basic booleans, (basic booleans, (held, tt))), ((basic binaries, tt), tt)))))
 
-  pub state_shown : AreShown inputs e delivery_state.faults.fault
+  pub state_shown : AreShown e delivery_state.faults.fault
   state_shown =
-      sum_shown inputs e delivery_states (
+      sum_shown e delivery_states (
         (basic uints, (basic ulongs, tt)),
         (
           tt,
@@ -61,7 +61,7 @@ module _ (inputs : Inputs) (e : Error) (other : TellsArrays inputs e) (new : e â
         ),
       )
 
-  pub open_fields : FieldsShown inputs e opening.fields
+  pub open_fields : FieldsShown e opening.fields
   open_fields = (
     basic strings,
     (
@@ -94,11 +94,11 @@ module _ (inputs : Inputs) (e : Error) (other : TellsArrays inputs e) (new : e â
     ),
   )
 
-  pub begin_fields : FieldsShown inputs e begin.fields
+  pub begin_fields : FieldsShown e begin.fields
   begin_fields =
       (basic ushorts, (basic uints, (basic uints, (basic uints, (basic uints, (several, (several, (held, tt))))))))
 
-  pub flow_fields : FieldsShown inputs e flow.fields
+  pub flow_fields : FieldsShown e flow.fields
   flow_fields = (
     basic uints,
     (
@@ -125,7 +125,7 @@ module _ (inputs : Inputs) (e : Error) (other : TellsArrays inputs e) (new : e â
     ),
   )
 
-  pub transfer_fields : FieldsShown inputs e transfer.fields
+  pub transfer_fields : FieldsShown e transfer.fields
   transfer_fields = (
     basic uints,
     (
@@ -139,7 +139,7 @@ module _ (inputs : Inputs) (e : Error) (other : TellsArrays inputs e) (new : e â
             (
               basic booleans,
               (
-                restricted_shown inputs e ubyte_base UnknownNumber receiver_settle_mode_numbers tt,
+                restricted_shown e ubyte_base UnknownNumber receiver_settle_mode_numbers tt,
                 (
                   state_shown,
                   (
@@ -158,9 +158,9 @@ module _ (inputs : Inputs) (e : Error) (other : TellsArrays inputs e) (new : e â
     ),
   )
 
-  pub disposition_fields : FieldsShown inputs e disposition.fields
+  pub disposition_fields : FieldsShown e disposition.fields
   disposition_fields = (
-    restricted_shown inputs e boolean_base UnknownNumber role_numbers tt,
+    restricted_shown e boolean_base UnknownNumber role_numbers tt,
     (
       basic uints,
       (
@@ -176,14 +176,14 @@ module _ (inputs : Inputs) (e : Error) (other : TellsArrays inputs e) (new : e â
     ),
   )
 
-  pub detach_fields : FieldsShown inputs e detach.fields
+  pub detach_fields : FieldsShown e detach.fields
   detach_fields =
       (basic uints, (basic booleans, (error_shown, tt)))
 
-  pub end_fields : FieldsShown inputs e ending.fields
+  pub end_fields : FieldsShown e ending.fields
   end_fields =
       (error_shown, tt)
 
-  pub close_fields : FieldsShown inputs e close.fields
+  pub close_fields : FieldsShown e close.fields
   close_fields =
       (error_shown, tt)

@@ -16,7 +16,7 @@ use Rattle.amqp_decoder.specs.State.{State, bound_of}
 use Rattle.amqp_decoder.specs.Steps.{Takes}
 use Rattle.amqp_decoder.specs.Primitives.{LacksData, IsWhole, bad, PrimitiveFault, not_begun, wrong_code, no_data, bad_data}
 use Rattle.amqp_decoder.specs.Places.{Located, Here}
-use Rattle.amqp_placed.specs.Facing.{bytes_open, IsAround, Faces, IsShown, Inputs}
+use Rattle.amqp_placed.specs.Facing.{bytes_open, IsAround, Faces, IsShown}
 use Rattle.amqp_placed.proofs.Past.{past_code, past_taken, past_bytes, past_around, past_unlimited}
 use Rattle.amqp_placed.proofs.Codes.{bad_at, value_wrong}
 use Rattle.amqp_placed.proofs.Here.{wrong_as, here_shows, lacks_wrong, code_taken, begin_wrong, other_code_wrong}
@@ -78,6 +78,6 @@ primitive_wrong k st e P d around h (bad_data {c} {m} {b} {m'} code kind took wh
     wrong_as e (bad k) around P d (bytes_open st) is (no_value_wrong c k around P d (bytes_open st) b m m' kind
     ((code_taken st c m P code h.next).under (kind_some c k kind)) took whole none)
 
-pub primitive_shown : (inputs : Inputs) (k : ℕ) (st : State) (f : Located) → Here (PrimitiveFault k) st f → IsShown inputs st f
-primitive_shown inputs k st f (fault, is) P d around meant h = here_shows st f P d around is
+pub primitive_shown : (k : ℕ) (st : State) (f : Located) → Here (PrimitiveFault k) st f → IsShown st f
+primitive_shown k st f (fault, is) P d around h = here_shows st f P d around is
     (primitive_wrong k st f.error P d around h fault)

@@ -12,50 +12,49 @@ use Rattle.amqp_kinds.specs.KindReading.{no_value, of_kind, LevelFault}
 use Rattle.amqp_values.specs.Levels.{value_with, faults_of, faults_at}
 use Rattle.amqp_values.specs.ValueMembers.{ValueMeans}
 use Rattle.amqp_simple_values.specs.SimpleType.{never_simple}
-use Rattle.amqp_placed.specs.Facing.{bytes_open, AreShown, Inputs}
-use Rattle.amqp_placed.specs.Shown.{TellsArrays}
+use Rattle.amqp_placed.specs.Facing.{bytes_open, AreShown}
 use Rattle.amqp_placed.proofs.Here.{wrong_as, here_shows, begin_shown, peeked_shown}
 use Rattle.amqp_placed.proofs.Primitives.{primitive_shown}
 use Rattle.amqp_placed.proofs.Items.{items_shown, map_shown}
 use Rattle.amqp_placed.proofs.Elements.{array_shown}
 use Rattle.amqp_placed.proofs.Described.{described_value_shown}
 
-module _ (inputs : Inputs) (e : Error) (other : TellsArrays inputs e) (new : e ≡ DuplicateKey → ⊥) where
-  kind_shown : (f : Faults) → AreShown inputs e f.fault → (k : Kind) → AreShown inputs e (faults_of f k).fault
-  kind_shown f shown kind.Null st x is h = primitive_shown inputs nulls st x h
-  kind_shown f shown kind.Bool st x is h = primitive_shown inputs booleans st x h
-  kind_shown f shown kind.Ubyte st x is h = primitive_shown inputs ubytes st x h
-  kind_shown f shown kind.Ushort st x is h = primitive_shown inputs ushorts st x h
-  kind_shown f shown kind.Uint st x is h = primitive_shown inputs uints st x h
-  kind_shown f shown kind.Ulong st x is h = primitive_shown inputs ulongs st x h
-  kind_shown f shown kind.Byte st x is h = primitive_shown inputs bytes st x h
-  kind_shown f shown kind.Short st x is h = primitive_shown inputs shorts st x h
-  kind_shown f shown kind.Int st x is h = primitive_shown inputs ints st x h
-  kind_shown f shown kind.Long st x is h = primitive_shown inputs longs st x h
-  kind_shown f shown kind.Decimal32 st x is h = primitive_shown inputs decimals32 st x h
-  kind_shown f shown kind.Decimal64 st x is h = primitive_shown inputs decimals64 st x h
-  kind_shown f shown kind.Decimal128 st x is h = primitive_shown inputs decimals128 st x h
-  kind_shown f shown kind.Char st x is h = primitive_shown inputs chars st x h
-  kind_shown f shown kind.Timestamp st x is h = primitive_shown inputs timestamps st x h
-  kind_shown f shown kind.Uuid st x is h = primitive_shown inputs uuids st x h
-  kind_shown f shown kind.Binary st x is h = primitive_shown inputs binaries st x h
-  kind_shown f shown kind.String st x is h = primitive_shown inputs strings st x h
-  kind_shown f shown kind.Symbol st x is h = primitive_shown inputs symbols st x h
-  kind_shown f shown kind.Described st x is h = described_value_shown inputs e f.fault shown st x is h
-  kind_shown f shown kind.List st x is h = items_shown ValueMeans f.fault inputs e shown st x is h
-  kind_shown f shown kind.Map st x is h = map_shown (value_with f) (value_with f) inputs e new shown shown st x is h
-  kind_shown f shown kind.Array st x is h = array_shown ValueMeans f.fault inputs e other shown st x is h
+module _ (e : Error) (new : e ≡ DuplicateKey → ⊥) where
+  kind_shown : (f : Faults) → AreShown e f.fault → (k : Kind) → AreShown e (faults_of f k).fault
+  kind_shown f shown kind.Null st x is h = primitive_shown nulls st x h
+  kind_shown f shown kind.Bool st x is h = primitive_shown booleans st x h
+  kind_shown f shown kind.Ubyte st x is h = primitive_shown ubytes st x h
+  kind_shown f shown kind.Ushort st x is h = primitive_shown ushorts st x h
+  kind_shown f shown kind.Uint st x is h = primitive_shown uints st x h
+  kind_shown f shown kind.Ulong st x is h = primitive_shown ulongs st x h
+  kind_shown f shown kind.Byte st x is h = primitive_shown bytes st x h
+  kind_shown f shown kind.Short st x is h = primitive_shown shorts st x h
+  kind_shown f shown kind.Int st x is h = primitive_shown ints st x h
+  kind_shown f shown kind.Long st x is h = primitive_shown longs st x h
+  kind_shown f shown kind.Decimal32 st x is h = primitive_shown decimals32 st x h
+  kind_shown f shown kind.Decimal64 st x is h = primitive_shown decimals64 st x h
+  kind_shown f shown kind.Decimal128 st x is h = primitive_shown decimals128 st x h
+  kind_shown f shown kind.Char st x is h = primitive_shown chars st x h
+  kind_shown f shown kind.Timestamp st x is h = primitive_shown timestamps st x h
+  kind_shown f shown kind.Uuid st x is h = primitive_shown uuids st x h
+  kind_shown f shown kind.Binary st x is h = primitive_shown binaries st x h
+  kind_shown f shown kind.String st x is h = primitive_shown strings st x h
+  kind_shown f shown kind.Symbol st x is h = primitive_shown symbols st x h
+  kind_shown f shown kind.Described st x is h = described_value_shown e f.fault shown st x is h
+  kind_shown f shown kind.List st x is h = items_shown ValueMeans f.fault e shown st x is h
+  kind_shown f shown kind.Map st x is h = map_shown (value_with f) (value_with f) e new shown shown st x is h
+  kind_shown f shown kind.Array st x is h = array_shown ValueMeans f.fault e shown st x is h
 
-  level_shown : (n : ℕ) → AreShown inputs e (faults_at n).fault
+  level_shown : (n : ℕ) → AreShown e (faults_at n).fault
   level_shown zero st f is h = absurd h
-  level_shown (suc n) st f is (no_value h) = begin_shown inputs st f h
+  level_shown (suc n) st f is (no_value h) = begin_shown st f h
   level_shown (suc n) st f is (of_kind {c} {mid} peeks h) =
-      peeked_shown inputs st c mid f peeks (kind_shown (faults_at n) (level_shown n) (kind_at c) mid f is h)
+      peeked_shown st c mid f peeks (kind_shown (faults_at n) (level_shown n) (kind_at c) mid f is h)
 
-  pub value_shown : AreShown inputs e (LevelFault faults_at)
+  pub value_shown : AreShown e (LevelFault faults_at)
   value_shown st f is h = level_shown h.levels st f is h.named
 
 -- A value that is there, and isn't allowed.
-pub invalid_shown : (inputs : Inputs) (e : Error) → AreShown inputs e never_simple.fault
-invalid_shown inputs e st f is (error, place) P d around meant h =
+pub invalid_shown : (e : Error) → AreShown e never_simple.fault
+invalid_shown e st f is (error, place) P d around h =
     here_shows st f P d around place (wrong_as f.error InvalidValue around P d (bytes_open st) error tt)

@@ -1,5 +1,5 @@
 -- Where a decoder stands in its input, and that a fault of what it reads there is one over bytes alone.
-use Rattle.std.specs.Prelude.{◌≡◌, ℕ, zero, ◌+◌, ◌<◌, ◌≤◌, ◌⊎◌, List, [], ◌∷◌, length, take, Option, Some, None}
+use Rattle.std.specs.Prelude.{◌≡◌, ℕ, zero, ◌+◌, ◌<◌, ◌≤◌, ◌⊎◌, List, length, take, Option, Some, None}
 use Rattle.amqp_model.specs.Term.{Descriptor}
 use Rattle.amqp_model.specs.Constructors.{format}
 use Rattle.amqp_model.specs.Spelling.{IsKnown}
@@ -34,24 +34,6 @@ abbrev pub IsNext : Option ℕ → Option (List Descriptor × ℕ) → Piece →
 IsNext (Some zero) shared P = IsEnd P
 IsNext left shared P = IsUnderShared shared P
 
--- Which inputs are meant: any, or those without a byte that is the code of an array (Part 1, section 1.6.24).
-pub data Inputs : Type 0 where
-  any_input : Inputs
-  without_arrays : Inputs
-
-abbrev pub HasNoArrays : List ℕ → Type 0
-HasNoArrays [] = Unit {0}
-HasNoArrays (x ∷ r) = (x ≡ 0xe0 → ⊥) × (x ≡ 0xf0 → ⊥) × HasNoArrays r
-
-abbrev pub IsMeant : Inputs → List ℕ → Type 0
-IsMeant any_input r = Unit {0}
-IsMeant without_arrays r = HasNoArrays r
-
--- What is ahead of a decoder in such an input: outside of arrays, if there are none.
-abbrev pub IsAhead : Inputs → State → Type 0
-IsAhead any_input st = Unit {0}
-IsAhead without_arrays st = HasNoArrays st.rest × (st.top.shared ≡ None)
-
 -- A decoder within no limits of the caller stands where this has to begin, in so many values that count in nesting.
 pub record Faces (st : State) (P : Piece) (d : ℕ) (around : Around) : Type 0 where
   pub nesting : st.nesting ≡ 128
@@ -69,9 +51,9 @@ pub record Shows (st : State) (f : Located) (P : Piece) (d : ℕ) (around : Arou
   pub stands : StandsFrom around P d (bytes_open st) f.error left
 
 -- Wherever a decoder stands so, the fault is shown by bytes alone.
-abbrev pub IsShown : Inputs → State → Located → Type 0
-IsShown inputs st f = (P : Piece) (d : ℕ) (around : Around) → IsAhead inputs st → Faces st P d around → Shows st f P d around
+abbrev pub IsShown : State → Located → Type 0
+IsShown st f = (P : Piece) (d : ℕ) (around : Around) → Faces st P d around → Shows st f P d around
 
 -- Each fault by this error is.
-abbrev pub AreShown : Inputs → Error → (State → Located → Type 0) → Type 0
-AreShown inputs e fault = (st : State) (f : Located) → f.error ≡ e → fault st f → IsShown inputs st f
+abbrev pub AreShown : Error → (State → Located → Type 0) → Type 0
+AreShown e fault = (st : State) (f : Located) → f.error ≡ e → fault st f → IsShown st f

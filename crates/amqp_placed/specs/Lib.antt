@@ -1,3 +1,2 @@
 pub mod Facing
 pub mod Shown
-pub mod Bounds

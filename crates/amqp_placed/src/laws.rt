@@ -22,9 +22,8 @@ ghost use Rattle.amqp_codec.specs.EitherMeaning.{EitherFault};
 ghost use Rattle.amqp_sums.specs.Restricted.{IsUnknownError, RestrictedFault};
 ghost use Rattle.amqp_sums.specs.Choices.{sum_of};
 ghost use Rattle.amqp_containers.specs.Several.{multiple_faults, mandatory_faults};
-ghost use Rattle.amqp_placed.specs.Bounds.{IsBounded};
-ghost use Rattle.amqp_placed.specs.Shown.{FieldsShown, ChoicesShown, IsOfNoEnd, TellsArrays};
-ghost use Rattle.amqp_placed.specs.Facing.{Inputs, IsMeant, IsShown, AreShown};
+ghost use Rattle.amqp_placed.specs.Shown.{FieldsShown, ChoicesShown, IsOfNoEnd};
+ghost use Rattle.amqp_placed.specs.Facing.{IsShown, AreShown};
 
 use amqp_attach::{Attach, Performative};
 use amqp_codec::kernel::{Composite, FieldList};
@@ -47,111 +46,107 @@ use std::rc::Rc;
 
 /// What stands at the place of an error is at fault, if the type's faults by that error are shown by bytes: in an input that begins with no
 /// value of the type. `from_slice_located` returns such a place (`place`), and so does `from_reader_located`, if there are fewer than 2^64
-/// bytes (`read`). Within limits of the caller, `Depth` and `Limit` are left out. The law is for any input, or for those without arrays
-/// (`Inputs`).
+/// bytes (`read`). Within limits of the caller, `Depth` and `Limit` are left out.
 pub fn shown_faults_stand<T: DeserializeTerm>()
-    ensures unlimited { (inputs : Inputs) (e : Error) → AreShown inputs e T.term.faults.fault → (limits : Limits) (input : List ℕ) (at : ℕ)
-        → IsGreatest limits → IsMeant inputs input → IsFaultyAt limits ⟦<T as Deserialize>⟧.reading input e at → StandsAt input e at }
-    ensures limited { (inputs : Inputs) (e : Error) → (IsByDepth e → ⊥) → AreShown inputs e T.term.faults.fault → (limits : Limits)
-        (input : List ℕ) (at : ℕ) → IsMeant inputs input → IsFaultyAt limits ⟦<T as Deserialize>⟧.reading input e at → StandsAt input e at }
-    ensures read { (inputs : Inputs) (e : Error) → (IsByDepth e → ⊥) → AreShown inputs e T.term.faults.fault → (limits : Limits)
-        (input : List ℕ) (at : ℕ) → at < 2 ^ 64 → length input < 2 ^ 64 → IsMeant inputs input
+    ensures unlimited { (e : Error) → AreShown e T.term.faults.fault → (limits : Limits) (input : List ℕ) (at : ℕ)
+        → IsGreatest limits → IsFaultyAt limits ⟦<T as Deserialize>⟧.reading input e at → StandsAt input e at }
+    ensures limited { (e : Error) → (IsByDepth e → ⊥) → AreShown e T.term.faults.fault → (limits : Limits)
+        (input : List ℕ) (at : ℕ) → IsFaultyAt limits ⟦<T as Deserialize>⟧.reading input e at → StandsAt input e at }
+    ensures read { (e : Error) → (IsByDepth e → ⊥) → AreShown e T.term.faults.fault → (limits : Limits)
+        (input : List ℕ) (at : ℕ) → at < 2 ^ 64 → length input < 2 ^ 64
         → HasFaultAt limits ⟦<T as Deserialize>⟧.reading input e at → StandsAt input e at }
 {}
 
 /// Each fault of a primitive is shown by bytes (Part 1, section 1.6).
 pub fn primitives()
-    ensures kind { (inputs : Inputs) (e : Error) (k : ℕ) → AreShown inputs e (Here (PrimitiveFault k)) }
-    ensures null { (inputs : Inputs) (e : Error) → AreShown inputs e ⟦<() as DeserializeTerm>⟧.term.faults.fault }
-    ensures boolean { (inputs : Inputs) (e : Error) → AreShown inputs e ⟦<bool as DeserializeTerm>⟧.term.faults.fault }
-    ensures ubyte { (inputs : Inputs) (e : Error) → AreShown inputs e ⟦<u8 as DeserializeTerm>⟧.term.faults.fault }
-    ensures ushort { (inputs : Inputs) (e : Error) → AreShown inputs e ⟦<u16 as DeserializeTerm>⟧.term.faults.fault }
-    ensures uint { (inputs : Inputs) (e : Error) → AreShown inputs e ⟦<u32 as DeserializeTerm>⟧.term.faults.fault }
-    ensures ulong { (inputs : Inputs) (e : Error) → AreShown inputs e ⟦<u64 as DeserializeTerm>⟧.term.faults.fault }
-    ensures byte { (inputs : Inputs) (e : Error) → AreShown inputs e ⟦<i8 as DeserializeTerm>⟧.term.faults.fault }
-    ensures short { (inputs : Inputs) (e : Error) → AreShown inputs e ⟦<i16 as DeserializeTerm>⟧.term.faults.fault }
-    ensures int { (inputs : Inputs) (e : Error) → AreShown inputs e ⟦<i32 as DeserializeTerm>⟧.term.faults.fault }
-    ensures long { (inputs : Inputs) (e : Error) → AreShown inputs e ⟦<i64 as DeserializeTerm>⟧.term.faults.fault }
-    ensures character { (inputs : Inputs) (e : Error) → AreShown inputs e ⟦<char as DeserializeTerm>⟧.term.faults.fault }
-    ensures string { (inputs : Inputs) (e : Error) → AreShown inputs e ⟦<String as DeserializeTerm>⟧.term.faults.fault }
-    ensures symbol { (inputs : Inputs) (e : Error) → AreShown inputs e ⟦<Symbol as DeserializeTerm>⟧.term.faults.fault }
-    ensures decimal32 { (inputs : Inputs) (e : Error) → AreShown inputs e ⟦<Dec32 as DeserializeTerm>⟧.term.faults.fault }
-    ensures decimal64 { (inputs : Inputs) (e : Error) → AreShown inputs e ⟦<Dec64 as DeserializeTerm>⟧.term.faults.fault }
-    ensures decimal128 { (inputs : Inputs) (e : Error) → AreShown inputs e ⟦<Dec128 as DeserializeTerm>⟧.term.faults.fault }
-    ensures timestamp { (inputs : Inputs) (e : Error) → AreShown inputs e ⟦<Timestamp as DeserializeTerm>⟧.term.faults.fault }
-    ensures uuid { (inputs : Inputs) (e : Error) → AreShown inputs e ⟦<Uuid as DeserializeTerm>⟧.term.faults.fault }
-    ensures binary { (inputs : Inputs) (e : Error) → AreShown inputs e ⟦<Binary as DeserializeTerm>⟧.term.faults.fault }
+    ensures kind { (e : Error) (k : ℕ) → AreShown e (Here (PrimitiveFault k)) }
+    ensures null { (e : Error) → AreShown e ⟦<() as DeserializeTerm>⟧.term.faults.fault }
+    ensures boolean { (e : Error) → AreShown e ⟦<bool as DeserializeTerm>⟧.term.faults.fault }
+    ensures ubyte { (e : Error) → AreShown e ⟦<u8 as DeserializeTerm>⟧.term.faults.fault }
+    ensures ushort { (e : Error) → AreShown e ⟦<u16 as DeserializeTerm>⟧.term.faults.fault }
+    ensures uint { (e : Error) → AreShown e ⟦<u32 as DeserializeTerm>⟧.term.faults.fault }
+    ensures ulong { (e : Error) → AreShown e ⟦<u64 as DeserializeTerm>⟧.term.faults.fault }
+    ensures byte { (e : Error) → AreShown e ⟦<i8 as DeserializeTerm>⟧.term.faults.fault }
+    ensures short { (e : Error) → AreShown e ⟦<i16 as DeserializeTerm>⟧.term.faults.fault }
+    ensures int { (e : Error) → AreShown e ⟦<i32 as DeserializeTerm>⟧.term.faults.fault }
+    ensures long { (e : Error) → AreShown e ⟦<i64 as DeserializeTerm>⟧.term.faults.fault }
+    ensures character { (e : Error) → AreShown e ⟦<char as DeserializeTerm>⟧.term.faults.fault }
+    ensures string { (e : Error) → AreShown e ⟦<String as DeserializeTerm>⟧.term.faults.fault }
+    ensures symbol { (e : Error) → AreShown e ⟦<Symbol as DeserializeTerm>⟧.term.faults.fault }
+    ensures decimal32 { (e : Error) → AreShown e ⟦<Dec32 as DeserializeTerm>⟧.term.faults.fault }
+    ensures decimal64 { (e : Error) → AreShown e ⟦<Dec64 as DeserializeTerm>⟧.term.faults.fault }
+    ensures decimal128 { (e : Error) → AreShown e ⟦<Dec128 as DeserializeTerm>⟧.term.faults.fault }
+    ensures timestamp { (e : Error) → AreShown e ⟦<Timestamp as DeserializeTerm>⟧.term.faults.fault }
+    ensures uuid { (e : Error) → AreShown e ⟦<Uuid as DeserializeTerm>⟧.term.faults.fault }
+    ensures binary { (e : Error) → AreShown e ⟦<Binary as DeserializeTerm>⟧.term.faults.fault }
 {}
 
 /// Each fault of a restricted type is shown by bytes: a number or a text of no value is a whole value.
 pub fn restricted_types<A, V>()
-    ensures { (inputs : Inputs) (e unknown : Error) (base : Base A) (table : V → A) → IsUnknownError unknown
-        → AreShown inputs e (RestrictedFault base unknown table) }
+    ensures { (e unknown : Error) (base : Base A) (table : V → A) → IsUnknownError unknown
+        → AreShown e (RestrictedFault base unknown table) }
 {}
 
 /// The faults of an optional, boxed or counted value by an error are shown by bytes, if those of the value are; so are those of a value
 /// behind a descriptor of its own (Part 1, section 1.2), and those of a list of values (section 1.6.22).
 pub fn values_held<T: DeserializeTerm>()
-    ensures option { (inputs : Inputs) (e : Error) → AreShown inputs e T.term.faults.fault
-        → AreShown inputs e ⟦<Option<T> as DeserializeTerm>⟧.term.faults.fault }
-    ensures boxed { (inputs : Inputs) (e : Error) → AreShown inputs e T.term.faults.fault
-        → AreShown inputs e ⟦<Box<T> as DeserializeTerm>⟧.term.faults.fault }
-    ensures counted { (inputs : Inputs) (e : Error) → AreShown inputs e T.term.faults.fault
-        → AreShown inputs e ⟦<Rc<T> as DeserializeTerm>⟧.term.faults.fault }
-    ensures described { (inputs : Inputs) (e : Error) → AreShown inputs e T.term.faults.fault
-        → AreShown inputs e ⟦<Described<T> as DeserializeTerm>⟧.term.faults.fault }
-    ensures list { (inputs : Inputs) (e : Error) → AreShown inputs e T.term.faults.fault
-        → AreShown inputs e ⟦<Vec<T> as DeserializeTerm>⟧.term.faults.fault }
+    ensures option { (e : Error) → AreShown e T.term.faults.fault
+        → AreShown e ⟦<Option<T> as DeserializeTerm>⟧.term.faults.fault }
+    ensures boxed { (e : Error) → AreShown e T.term.faults.fault
+        → AreShown e ⟦<Box<T> as DeserializeTerm>⟧.term.faults.fault }
+    ensures counted { (e : Error) → AreShown e T.term.faults.fault
+        → AreShown e ⟦<Rc<T> as DeserializeTerm>⟧.term.faults.fault }
+    ensures described { (e : Error) → AreShown e T.term.faults.fault
+        → AreShown e ⟦<Described<T> as DeserializeTerm>⟧.term.faults.fault }
+    ensures list { (e : Error) → AreShown e T.term.faults.fault
+        → AreShown e ⟦<Vec<T> as DeserializeTerm>⟧.term.faults.fault }
 {}
 
-/// The faults of an array of values by an error are shown by bytes, if those of the values are (Part 1, section 1.6.24). The errors of the
-/// constructor that the items share are left out, unless the input has no arrays (`TellsArrays`).
+/// The faults of an array of values by an error are shown by bytes, if those of the values are (Part 1, section 1.6.24).
 pub fn arrays<T: DeserializeTerm>()
-    ensures { (inputs : Inputs) (e : Error) → TellsArrays inputs e → AreShown inputs e T.term.faults.fault
-        → AreShown inputs e ⟦<Array<T> as DeserializeTerm>⟧.term.faults.fault }
+    ensures { (e : Error) → AreShown e T.term.faults.fault
+        → AreShown e ⟦<Array<T> as DeserializeTerm>⟧.term.faults.fault }
 {}
 
 /// The faults of a field of several values by an error are shown by bytes, if those of one value are (Part 1, section 1.4): of any number,
-/// and of at least one. The errors of an array's constructor are left out, as above.
+/// and of at least one.
 pub fn fields_of_several<T: DeserializeTerm>()
-    ensures any_number { (inputs : Inputs) (e : Error) → TellsArrays inputs e → AreShown inputs e T.term.faults.fault
-        → AreShown inputs e (multiple_faults T.term).fault }
-    ensures at_least_one { (inputs : Inputs) (e : Error) → TellsArrays inputs e → AreShown inputs e T.term.faults.fault
-        → AreShown inputs e (mandatory_faults T.term).fault }
+    ensures any_number { (e : Error) → AreShown e T.term.faults.fault
+        → AreShown e (multiple_faults T.term).fault }
+    ensures at_least_one { (e : Error) → AreShown e T.term.faults.fault
+        → AreShown e (mandatory_faults T.term).fault }
 {}
 
-/// The faults of a value of any kind are shown by bytes, but for `DuplicateKey` and the errors of an array's constructor.
+/// The faults of a value of any kind are shown by bytes, but for `DuplicateKey`.
 pub fn values()
-    ensures value { (inputs : Inputs) (e : Error) → TellsArrays inputs e → (e ≡ DuplicateKey → ⊥)
-        → AreShown inputs e ⟦<Value as DeserializeTerm>⟧.term.faults.fault }
-    ensures map { (inputs : Inputs) (e : Error) → TellsArrays inputs e → (e ≡ DuplicateKey → ⊥)
-        → AreShown inputs e ⟦<ValueMap as DeserializeTerm>⟧.term.faults.fault }
-    ensures simple { (inputs : Inputs) (e : Error) → TellsArrays inputs e → (e ≡ DuplicateKey → ⊥)
-        → AreShown inputs e ⟦<SimpleValue as DeserializeTerm>⟧.term.faults.fault }
+    ensures value { (e : Error) → (e ≡ DuplicateKey → ⊥)
+        → AreShown e ⟦<Value as DeserializeTerm>⟧.term.faults.fault }
+    ensures map { (e : Error) → (e ≡ DuplicateKey → ⊥)
+        → AreShown e ⟦<ValueMap as DeserializeTerm>⟧.term.faults.fault }
+    ensures simple { (e : Error) → (e ≡ DuplicateKey → ⊥)
+        → AreShown e ⟦<SimpleValue as DeserializeTerm>⟧.term.faults.fault }
 {}
 
 /// The faults of a term of any kind whose bytes are kept are shown by bytes (Part 1, section 1.2), but for `Cut` and `Size`.
 pub fn kept_terms()
-    ensures { (inputs : Inputs) (e : Error) → IsOfNoEnd e → AreShown inputs e ⟦<LazyValue as DeserializeTerm>⟧.term.faults.fault }
+    ensures { (e : Error) → IsOfNoEnd e → AreShown e ⟦<LazyValue as DeserializeTerm>⟧.term.faults.fault }
 {}
 
-/// The faults of the composites of the security layer are shown by bytes (Part 5, section 5.3.3). `SaslMechanisms` holds an array, so the
-/// errors of its constructor are left out there.
+/// The faults of the composites of the security layer are shown by bytes (Part 5, section 5.3.3).
 pub fn security()
-    ensures mechanisms { (inputs : Inputs) (e : Error) → TellsArrays inputs e
-        → AreShown inputs e ⟦<SaslMechanisms as DeserializeTerm>⟧.term.faults.fault }
-    ensures init { (inputs : Inputs) (e : Error) → AreShown inputs e ⟦<SaslInit as DeserializeTerm>⟧.term.faults.fault }
-    ensures challenge { (inputs : Inputs) (e : Error) → AreShown inputs e ⟦<SaslChallenge as DeserializeTerm>⟧.term.faults.fault }
-    ensures response { (inputs : Inputs) (e : Error) → AreShown inputs e ⟦<SaslResponse as DeserializeTerm>⟧.term.faults.fault }
-    ensures outcome { (inputs : Inputs) (e : Error) → AreShown inputs e ⟦<SaslOutcome as DeserializeTerm>⟧.term.faults.fault }
+    ensures mechanisms { (e : Error) → AreShown e ⟦<SaslMechanisms as DeserializeTerm>⟧.term.faults.fault }
+    ensures init { (e : Error) → AreShown e ⟦<SaslInit as DeserializeTerm>⟧.term.faults.fault }
+    ensures challenge { (e : Error) → AreShown e ⟦<SaslChallenge as DeserializeTerm>⟧.term.faults.fault }
+    ensures response { (e : Error) → AreShown e ⟦<SaslResponse as DeserializeTerm>⟧.term.faults.fault }
+    ensures outcome { (e : Error) → AreShown e ⟦<SaslOutcome as DeserializeTerm>⟧.term.faults.fault }
 {}
 
 /// Each fault of a message's header, of its properties and of an identifier of a message is shown by bytes (Part 3, sections 3.2.1, 3.2.4
 /// and 3.2.11 to 3.2.14).
 pub fn message_headers()
-    ensures header { (inputs : Inputs) (e : Error) → AreShown inputs e ⟦<Header as DeserializeTerm>⟧.term.faults.fault }
-    ensures properties { (inputs : Inputs) (e : Error) → AreShown inputs e ⟦<Properties as DeserializeTerm>⟧.term.faults.fault }
-    ensures identifier { (inputs : Inputs) (e : Error) → AreShown inputs e ⟦<MessageId as DeserializeTerm>⟧.term.faults.fault }
+    ensures header { (e : Error) → AreShown e ⟦<Header as DeserializeTerm>⟧.term.faults.fault }
+    ensures properties { (e : Error) → AreShown e ⟦<Properties as DeserializeTerm>⟧.term.faults.fault }
+    ensures identifier { (e : Error) → AreShown e ⟦<MessageId as DeserializeTerm>⟧.term.faults.fault }
 {}
 
 /// Where a described value begins an input, `Cut` isn't shown by bytes: what is cut is its descriptor, or what that describes. A
@@ -161,62 +156,62 @@ pub fn described_values_begin_whole()
 {}
 
 /// The faults of the performatives, and of the errors, delivery states, outcomes and termini that they hold, are shown by bytes (Part 2,
-/// sections 2.7 and 2.8.14, and Part 3, sections 3.4 and 3.5). `DuplicateKey` and the errors of an array's constructor are left out.
+/// sections 2.7 and 2.8.14, and Part 3, sections 3.4 and 3.5). `DuplicateKey` is left out.
 pub fn performatives()
-    ensures error { (inputs : Inputs) (e : Error) → TellsArrays inputs e → (e ≡ DuplicateKey → ⊥)
-        → AreShown inputs e ⟦<amqp_errors::Error as DeserializeTerm>⟧.term.faults.fault }
-    ensures state { (inputs : Inputs) (e : Error) → TellsArrays inputs e → (e ≡ DuplicateKey → ⊥)
-        → AreShown inputs e ⟦<DeliveryState as DeserializeTerm>⟧.term.faults.fault }
-    ensures outcome { (inputs : Inputs) (e : Error) → TellsArrays inputs e → (e ≡ DuplicateKey → ⊥)
-        → AreShown inputs e ⟦<Outcome as DeserializeTerm>⟧.term.faults.fault }
-    ensures opening { (inputs : Inputs) (e : Error) → TellsArrays inputs e → (e ≡ DuplicateKey → ⊥)
-        → AreShown inputs e ⟦<Open as DeserializeTerm>⟧.term.faults.fault }
-    ensures beginning { (inputs : Inputs) (e : Error) → TellsArrays inputs e → (e ≡ DuplicateKey → ⊥)
-        → AreShown inputs e ⟦<Begin as DeserializeTerm>⟧.term.faults.fault }
-    ensures flow { (inputs : Inputs) (e : Error) → TellsArrays inputs e → (e ≡ DuplicateKey → ⊥)
-        → AreShown inputs e ⟦<Flow as DeserializeTerm>⟧.term.faults.fault }
-    ensures transfer { (inputs : Inputs) (e : Error) → TellsArrays inputs e → (e ≡ DuplicateKey → ⊥)
-        → AreShown inputs e ⟦<Transfer as DeserializeTerm>⟧.term.faults.fault }
-    ensures disposition { (inputs : Inputs) (e : Error) → TellsArrays inputs e → (e ≡ DuplicateKey → ⊥)
-        → AreShown inputs e ⟦<Disposition as DeserializeTerm>⟧.term.faults.fault }
-    ensures detach { (inputs : Inputs) (e : Error) → TellsArrays inputs e → (e ≡ DuplicateKey → ⊥)
-        → AreShown inputs e ⟦<Detach as DeserializeTerm>⟧.term.faults.fault }
-    ensures ending { (inputs : Inputs) (e : Error) → TellsArrays inputs e → (e ≡ DuplicateKey → ⊥)
-        → AreShown inputs e ⟦<End as DeserializeTerm>⟧.term.faults.fault }
-    ensures closing { (inputs : Inputs) (e : Error) → TellsArrays inputs e → (e ≡ DuplicateKey → ⊥)
-        → AreShown inputs e ⟦<Close as DeserializeTerm>⟧.term.faults.fault }
-    ensures attach { (inputs : Inputs) (e : Error) → TellsArrays inputs e → (e ≡ DuplicateKey → ⊥)
-        → AreShown inputs e ⟦<Attach as DeserializeTerm>⟧.term.faults.fault }
-    ensures performative { (inputs : Inputs) (e : Error) → TellsArrays inputs e → (e ≡ DuplicateKey → ⊥)
-        → AreShown inputs e ⟦<Performative as DeserializeTerm>⟧.term.faults.fault }
-    ensures source { (inputs : Inputs) (e : Error) → TellsArrays inputs e → (e ≡ DuplicateKey → ⊥)
-        → AreShown inputs e ⟦<Source as DeserializeTerm>⟧.term.faults.fault }
-    ensures target { (inputs : Inputs) (e : Error) → TellsArrays inputs e → (e ≡ DuplicateKey → ⊥)
-        → AreShown inputs e ⟦<Target as DeserializeTerm>⟧.term.faults.fault }
-    ensures coordinator { (inputs : Inputs) (e : Error) → TellsArrays inputs e → (e ≡ DuplicateKey → ⊥)
-        → AreShown inputs e ⟦<Coordinator as DeserializeTerm>⟧.term.faults.fault }
-    ensures lifetime { (inputs : Inputs) (e : Error) → TellsArrays inputs e → (e ≡ DuplicateKey → ⊥)
-        → AreShown inputs e ⟦<LifetimePolicy as DeserializeTerm>⟧.term.faults.fault }
-    ensures archetype { (inputs : Inputs) (e : Error) → TellsArrays inputs e → (e ≡ DuplicateKey → ⊥)
-        → AreShown inputs e ⟦<TargetArchetype as DeserializeTerm>⟧.term.faults.fault }
+    ensures error { (e : Error) → (e ≡ DuplicateKey → ⊥)
+        → AreShown e ⟦<amqp_errors::Error as DeserializeTerm>⟧.term.faults.fault }
+    ensures state { (e : Error) → (e ≡ DuplicateKey → ⊥)
+        → AreShown e ⟦<DeliveryState as DeserializeTerm>⟧.term.faults.fault }
+    ensures outcome { (e : Error) → (e ≡ DuplicateKey → ⊥)
+        → AreShown e ⟦<Outcome as DeserializeTerm>⟧.term.faults.fault }
+    ensures opening { (e : Error) → (e ≡ DuplicateKey → ⊥)
+        → AreShown e ⟦<Open as DeserializeTerm>⟧.term.faults.fault }
+    ensures beginning { (e : Error) → (e ≡ DuplicateKey → ⊥)
+        → AreShown e ⟦<Begin as DeserializeTerm>⟧.term.faults.fault }
+    ensures flow { (e : Error) → (e ≡ DuplicateKey → ⊥)
+        → AreShown e ⟦<Flow as DeserializeTerm>⟧.term.faults.fault }
+    ensures transfer { (e : Error) → (e ≡ DuplicateKey → ⊥)
+        → AreShown e ⟦<Transfer as DeserializeTerm>⟧.term.faults.fault }
+    ensures disposition { (e : Error) → (e ≡ DuplicateKey → ⊥)
+        → AreShown e ⟦<Disposition as DeserializeTerm>⟧.term.faults.fault }
+    ensures detach { (e : Error) → (e ≡ DuplicateKey → ⊥)
+        → AreShown e ⟦<Detach as DeserializeTerm>⟧.term.faults.fault }
+    ensures ending { (e : Error) → (e ≡ DuplicateKey → ⊥)
+        → AreShown e ⟦<End as DeserializeTerm>⟧.term.faults.fault }
+    ensures closing { (e : Error) → (e ≡ DuplicateKey → ⊥)
+        → AreShown e ⟦<Close as DeserializeTerm>⟧.term.faults.fault }
+    ensures attach { (e : Error) → (e ≡ DuplicateKey → ⊥)
+        → AreShown e ⟦<Attach as DeserializeTerm>⟧.term.faults.fault }
+    ensures performative { (e : Error) → (e ≡ DuplicateKey → ⊥)
+        → AreShown e ⟦<Performative as DeserializeTerm>⟧.term.faults.fault }
+    ensures source { (e : Error) → (e ≡ DuplicateKey → ⊥)
+        → AreShown e ⟦<Source as DeserializeTerm>⟧.term.faults.fault }
+    ensures target { (e : Error) → (e ≡ DuplicateKey → ⊥)
+        → AreShown e ⟦<Target as DeserializeTerm>⟧.term.faults.fault }
+    ensures coordinator { (e : Error) → (e ≡ DuplicateKey → ⊥)
+        → AreShown e ⟦<Coordinator as DeserializeTerm>⟧.term.faults.fault }
+    ensures lifetime { (e : Error) → (e ≡ DuplicateKey → ⊥)
+        → AreShown e ⟦<LifetimePolicy as DeserializeTerm>⟧.term.faults.fault }
+    ensures archetype { (e : Error) → (e ≡ DuplicateKey → ⊥)
+        → AreShown e ⟦<TargetArchetype as DeserializeTerm>⟧.term.faults.fault }
 {}
 
 /// The faults of a value of one type or another by an error are shown by bytes, if those of both types are.
 pub fn either_of_two<A: DeserializeTerm, B: DeserializeTerm>()
-    ensures { (inputs : Inputs) (e : Error) (is_first : ℕ → Bool) → AreShown inputs e A.term.faults.fault
-        → AreShown inputs e B.term.faults.fault
-        → AreShown inputs e (EitherFault is_first A.term.faults B.term.faults) }
+    ensures { (e : Error) (is_first : ℕ → Bool) → AreShown e A.term.faults.fault
+        → AreShown e B.term.faults.fault
+        → AreShown e (EitherFault is_first A.term.faults B.term.faults) }
 {}
 
 /// The faults of a map by an error are shown by bytes, if those of its keys and values are (Part 1, section 1.6.23); except `DuplicateKey`,
 /// whose place may be behind the last pair.
 pub fn maps<K: MapKey + Ord, V: DeserializeTerm>()
-    ensures by_order { (inputs : Inputs) (e : Error) → (e ≡ DuplicateKey → ⊥) → AreShown inputs e K.term.faults.fault
-        → AreShown inputs e V.term.faults.fault
-        → AreShown inputs e ⟦<BTreeMap<K, V> as DeserializeTerm>⟧.term.faults.fault }
-    ensures as_read { (inputs : Inputs) (e : Error) → (e ≡ DuplicateKey → ⊥) → AreShown inputs e K.term.faults.fault
-        → AreShown inputs e V.term.faults.fault
-        → AreShown inputs e ⟦<OrderedMap<K, V> as DeserializeTerm>⟧.term.faults.fault }
+    ensures by_order { (e : Error) → (e ≡ DuplicateKey → ⊥) → AreShown e K.term.faults.fault
+        → AreShown e V.term.faults.fault
+        → AreShown e ⟦<BTreeMap<K, V> as DeserializeTerm>⟧.term.faults.fault }
+    ensures as_read { (e : Error) → (e ≡ DuplicateKey → ⊥) → AreShown e K.term.faults.fault
+        → AreShown e V.term.faults.fault
+        → AreShown e ⟦<OrderedMap<K, V> as DeserializeTerm>⟧.term.faults.fault }
 {}
 
 /// No key begins at the end of an input. So `DuplicateKey` isn't shown by bytes if it is placed there, behind the last pair of a map.
@@ -226,44 +221,43 @@ pub fn keys_begin_inside()
 
 /// The faults of a list of fields by an error are shown by bytes, if those of its fields are (Part 1, section 1.4).
 pub fn field_lists<L: FieldList>()
-    ensures { (inputs : Inputs) (e : Error) → FieldsShown inputs e L.list.fields → AreShown inputs e (FieldsFault L.list.fields) }
+    ensures { (e : Error) → FieldsShown e L.list.fields → AreShown e (FieldsFault L.list.fields) }
 {}
 
 /// The faults of a composite by an error are shown by bytes, if those of its fields are (Part 1, section 1.4).
 pub fn composites<C: Composite>()
-    ensures { (inputs : Inputs) (e : Error) → FieldsShown inputs e C.list.fields
-        → AreShown inputs e ⟦<C as DeserializeTerm>⟧.term.faults.fault }
+    ensures { (e : Error) → FieldsShown e C.list.fields
+        → AreShown e ⟦<C as DeserializeTerm>⟧.term.faults.fault }
 {}
 
 /// The faults of a sum of composites by an error are shown by bytes, if those of its members' fields are.
 pub fn sums<S: Sum>()
-    ensures { (inputs : Inputs) (e : Error) → ChoicesShown inputs e S.sum.choices → AreShown inputs e (sum_of S.sum).faults.fault }
+    ensures { (e : Error) → ChoicesShown e S.sum.choices → AreShown e (sum_of S.sum).faults.fault }
 {}
 
 /// Each fault of a list or map that isn't opened is shown by bytes (Part 1, sections 1.6.22 and 1.6.23). So is one that stands in it, after
 /// some items, and one at its end.
 pub fn containers()
-    ensures unopened { (inputs : Inputs) (e : Error) (kind : Container) → (kind ≡ array → ⊥) → AreShown inputs e (Here (OpenFault kind)) }
-    ensures inside { (inputs : Inputs) (kind : Container) → (kind ≡ array → ⊥)
+    ensures unopened { (e : Error) (kind : Container) → (kind ≡ array → ⊥) → AreShown e (Here (OpenFault kind)) }
+    ensures inside { (kind : Container) → (kind ≡ array → ⊥)
         → (st first mid : State) (n : ℕ) (ts : List Term) (b : List ℕ) (f : Located)
-        → Opens kind st n first → Row first ts b mid → length ts ≤ n → IsShown inputs mid f → IsShown inputs st f }
-    ensures unclosed { (inputs : Inputs) (kind : Container) → (kind ≡ array → ⊥)
+        → Opens kind st n first → Row first ts b mid → length ts ≤ n → IsShown mid f → IsShown st f }
+    ensures unclosed { (kind : Container) → (kind ≡ array → ⊥)
         → (place : Place) (st first mid : State) (n : ℕ) (ts : List Term)
         (b : List ℕ) (f : Located) → Opens kind st n first → Row first ts b mid → length ts ≤ n → Here (CloseFault place) mid f
-        → IsShown inputs st f }
+        → IsShown st f }
 {}
 
-/// Each fault of an array that isn't opened is shown by bytes, if the constructor that its items share has at most 128 descriptors, and the
-/// container around the array has room for them (Part 1, section 1.2.4). The decoder keeps to both, but its faults don't say so.
+/// Each fault of an array that isn't opened is shown by bytes (Part 1, section 1.2.4).
 pub fn unopened_arrays()
-    ensures { (inputs : Inputs) (st : State) (f : Located) (h : At array_left st f) → IsBounded st f.error h.0 → IsShown inputs st f }
+    ensures { (e : Error) → AreShown e (At array_left) }
 {}
 
 /// Each fault of a described value that isn't opened, or whose descriptor is another's, is shown by bytes (Part 1, section 1.5). So is one
 /// of what the descriptor describes.
 pub fn descriptions()
-    ensures unopened { (inputs : Inputs) (e : Error) → AreShown inputs e (At open_left) }
-    ensures no_member { (inputs : Inputs) (e : Error) (members : List Member) → AreShown inputs e (At (one_of_left members)) }
-    ensures inside { (inputs : Inputs) (st inner : State) (d : Descriptor) (f : Located) → OpensDescribed st d inner
-        → IsShown inputs inner f → IsShown inputs st f }
+    ensures unopened { (e : Error) → AreShown e (At open_left) }
+    ensures no_member { (e : Error) (members : List Member) → AreShown e (At (one_of_left members)) }
+    ensures inside { (st inner : State) (d : Descriptor) (f : Located) → OpensDescribed st d inner
+        → IsShown inner f → IsShown st f }
 {}

@@ -21,11 +21,13 @@ pub use Rattle.amqp_bodies.specs.BodyRewriting.{NoBodyFollows}
 pub use Rattle.amqp_bodies.specs.EmptyBodies.{HasNoEmptyBatch}
 pub use Rattle.amqp_bodies.specs.NullBodies.{IsNull}
 pub use Rattle.amqp_bodies.specs.PlainBodies.{null_value, none_value, lazy_null}
-pub use Rattle.amqp_message_spellings.specs.Spellings.{Spells, Begins, IsReadExactly, IsTerm, Are, IsRun, IsBatch, IsThere}
-pub use Rattle.amqp_message_spellings.specs.Bodies.{IsBody}
+pub use Rattle.amqp_batches.specs.Spellings.{Spells, Begins, IsReadExactly, IsTerm, Are, IsRun, IsBatch}
+pub use Rattle.amqp_batches.specs.SpellingFaults.{IsRefusedFor, IsNoTerm, IsRunFault, IsSectionFault}
+pub use Rattle.amqp_bodies.specs.SpelledBodies.{IsBody, IsThere}
+pub use Rattle.amqp_bodies.specs.SpelledFaults.{IsBodyFault}
 pub use Rattle.amqp_message_spellings.specs.Kinds.{Kind, Kinds, Group, IsGroup, Fields, put, behind, IsInAnyOrder, IsInOrder}
 pub use Rattle.amqp_message_spellings.specs.Messages.{seven, IsMadeOf, IsMessage, IsStrictMessage}
-pub use Rattle.amqp_message_spellings.specs.Faults.{IsRefusedFor, IsNoTerm, IsRunFault, IsSectionFault, IsBodyFault, IsBehindGroups}
+pub use Rattle.amqp_message_spellings.specs.Faults.{IsBehindGroups}
 pub use Rattle.amqp_message_spellings.specs.Faults.{IsMessageFault, IsStrictFault}
 pub use Rattle.amqp_messages.specs.MessageTypes.{message_of, message_in, as_strict}
 pub use Rattle.amqp_messages.specs.MessageWalk.{message_walk}

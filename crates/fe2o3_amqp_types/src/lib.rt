@@ -98,6 +98,7 @@ pub mod laws {
     pub use amqp_nodes::laws as nodes;
     pub use amqp_paths::laws as paths;
     pub use amqp_performatives::laws as performatives;
+    pub use amqp_placed::laws as placed;
     pub use amqp_primitives::laws as primitives;
     pub use amqp_read_write::laws::{
         canonical_text_is_least, canonical_text_is_read_again, count_is_bounded, faults_of_a_sum,

@@ -118,10 +118,10 @@ marks_shrink : (st : State) (ds : List Descriptor) (c : ℕ) (m : State) → Tak
 marks_shrink st ds c m h = omega (arith, takes_shrinks st (h.own ++ c ∷ []) m h.took, length-append h.own (c ∷ []))
 
 pub constructor_within : (st : State) (e : Error) (f : ConstructorFault st e) → constructor_left st e f ≤ length st.rest
-constructor_within st e (no_code ds own m marks took lacks) = omega (arith, takes_shrinks st own m took)
-constructor_within st e (no_mark ds m took f) = omega (arith, marks_shrink st ds 0 m took)
-constructor_within st e (too_many ds m took many is) = marks_shrink st ds 0 m took
-constructor_within st e (no_known_code ds c m took some unknown is) = marks_shrink st ds c m took
+constructor_within st e (no_code ds own m few marks took lacks) = omega (arith, takes_shrinks st own m took)
+constructor_within st e (no_mark ds m few took f) = omega (arith, marks_shrink st ds 0 m took)
+constructor_within st e (too_many ds m many took is) = marks_shrink st ds 0 m took
+constructor_within st e (no_known_code ds c m few took some unknown is) = marks_shrink st ds c m took
 
 shares_within : (n : ℕ) (st : State) (e : Error) (f : SharesFault n st e) → shares_left n st e f ≤ length st.rest
 shares_within n st e (no_constructor f) = constructor_within st e f
@@ -130,7 +130,7 @@ shares_within n st e (too_nested ds c m some took uneven deep is) = omega arith
 
 enter_within : (own w : ℕ) (st : State) (e : Error) → length st.rest ≤ own → (f : EnterArrayFault w st e) → enter_left own w st e f ≤ own
 enter_within own w st e less (no_items_opened f) = omega arith
-enter_within own w st e less (no_start n content m header some f) =
+enter_within own w st e less (no_start n content m header room some f) =
     omega (arith, less, takes_shrinks st _ m header.took, shares_within n (in_container InArray 0 content m) e f)
 
 pub array_within : (st : State) (e : Located) → At array_left st e → e.left ≤ length st.rest

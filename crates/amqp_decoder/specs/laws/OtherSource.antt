@@ -428,10 +428,10 @@ module _ (c : Setting) where
       }
 
   constructor_placed : {st : State} {f : Located} → KeepsError c f.error → At constructor_left st f → At constructor_left (at st) f
-  constructor_placed keeps (arrays.no_code ds own m marks t l, is) = (arrays.no_code ds own (at m) marks (took t) (lacks keeps l), is)
-  constructor_placed keeps (no_mark ds m t h, is) = (no_mark ds (at m) (took_marks t) (descriptor_fault keeps h), is)
-  constructor_placed keeps (too_many ds m t l e, is) = (too_many ds (at m) (took_marks t) l e, is)
-  constructor_placed keeps (no_known_code ds k m t some never e, is) = (no_known_code ds k (at m) (took_marks t) some never e, is)
+  constructor_placed keeps (arrays.no_code ds own m few marks t l, is) = (arrays.no_code ds own (at m) few marks (took t) (lacks keeps l), is)
+  constructor_placed keeps (no_mark ds m few t h, is) = (no_mark ds (at m) few (took_marks t) (descriptor_fault keeps h), is)
+  constructor_placed keeps (too_many ds m many t e, is) = (too_many ds (at m) many (took_marks t) e, is)
+  constructor_placed keeps (no_known_code ds k m few t some never e, is) = (no_known_code ds k (at m) few (took_marks t) some never e, is)
 
   shares_placed : {n : ℕ} {st : State} {f : Located} → KeepsError c f.error → At (shares_left n) st f → At (shares_left n) (at st) f
   shares_placed keeps (no_constructor h, is) = let x = constructor_placed keeps (h, is) in (no_constructor x.0, x.1)
@@ -447,9 +447,9 @@ module _ (c : Setting) where
 
   enter_placed : {own w : ℕ} {st : State} {f : Located} → KeepsError c f.error → At (enter_left own w) st f → At (enter_left own w) (at st) f
   enter_placed keeps (no_items_opened h, is) = (no_items_opened (open_items_fault keeps h), is)
-  enter_placed {f} keeps (no_start n content m h l g, is) =
+  enter_placed {f} keeps (no_start n content m h room l g, is) =
       let x = subst (λ z. At (shares_left n) z f) (opened_in InArray 0 content m) (shares_placed keeps (g, is)) in
-      (no_start n content (at m) (header h) l x.0, x.1)
+      (no_start n content (at m) (header h) (room_left content m room) l x.0, x.1)
 
   pub array_placed : {st : State} {f : Located} → KeepsError c f.error → At array_left st f → At array_left (at st) f
   array_placed keeps (arrays.not_begun h, is) = (arrays.not_begun (begin_fault keeps h), is)

@@ -1,6 +1,6 @@
-use Rattle.amqp_message_spellings.proofs.ReadAs.{exactly}
-use Rattle.amqp_message_spellings.proofs.Groups.{batch_is_read}
-use Rattle.amqp_message_spellings.proofs.Faulty.{of_input, batch_named}
+use Rattle.amqp_batches.specs.laws.ReadAs.{exactly}
+use Rattle.amqp_batches.specs.laws.SpelledGroups.{batch_is_read}
+use Rattle.amqp_batches.specs.laws.NamedAs.{of_input, batch_named}
 use Rattle.amqp_message_spellings.proofs.batches_are_spelled.Goals as goal
 
 pub returns-clause-exactly : goal.returns-clause-exactly

@@ -6,7 +6,7 @@ use Rattle.amqp_blocks.proofs.frames.cut_frame.Goals as goal
 pub returns-in_default : goal.returns-in_default
 returns-in_default c =
     block_begins CutFrame 0 0 (length c.args.input.now) c.in_ok-block.block c.args.input.now (c.in_ok-block.ensures 0 0) (omega arith)
-    (omega arith) (omega arith) tt
+    (omega arith) (omega arith) (λ some. some) tt
 
 pub returns : goal.returns
 returns c =
@@ -16,4 +16,4 @@ returns c =
     let end = unwrap_or c.in_ok-entries.field-0.end len in
     let ends = at_most_the_end c.in_ok-entries.field-0.end at len le c.in_ok-entries.ensures.ends in
     block_begins CutFrame at end len c.with_value.result c.args.input.now
-    (c.with_value.ensures CutFrame at end len (c.in_ok-block.ensures at end) (c.in_ok-entries.ensures.outline le)) ends.0 ends.1 (omega arith) tt
+    (c.with_value.ensures CutFrame at end len (c.in_ok-block.ensures at end) (c.in_ok-entries.ensures.outline le)) ends.0 ends.1 (omega arith) (λ some. some) tt

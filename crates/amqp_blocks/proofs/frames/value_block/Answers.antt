@@ -1,4 +1,4 @@
-use Rattle.std.proofs.Common.{arith, length, unwrap_or}
+use Rattle.std.proofs.Common.{length, unwrap_or}
 use Rattle.amqp_blocks.specs.declared.block.Subject.TheVariants.{NoFrame}
 use Rattle.amqp_blocks.proofs.BlockLemmas.{at_most_the_end}
 use Rattle.amqp_blocks.proofs.frames.value_block.Goals as goal

@@ -1,4 +1,4 @@
-use Rattle.std.proofs.Common.{arith, ◌≤◌, length, unwrap_or}
+use Rattle.std.proofs.Common.{arith, length, unwrap_or}
 use Rattle.amqp_blocks.proofs.BlockLemmas.{at_most_the_end}
 use Rattle.amqp_blocks.proofs.OutlineLemmas.{longer_outline}
 use Rattle.amqp_blocks.proofs.message.sections_of.Goals as goal

@@ -1,4 +1,4 @@
-use Rattle.std.proofs.Common.{ℕ, ◌≤◌, length, sym, subst, IfOk, IfSome}
+use Rattle.std.proofs.Common.{ℕ, ◌≤◌, ◌<◌, length, sym, subst, refl, arith, IfOk, IfSome}
 use Rattle.amqp_blocks.specs.Spans.{IsOutline}
 use Rattle.amqp_blocks.proofs.OutlineLemmas.{longer_outline}
 use Rattle.amqp_blocks.proofs.outline.add_outline.Goals as goal
@@ -13,5 +13,5 @@ returns-in-Some-clause-outline c = λ le l low h.
 
 pub returns-in-Some-clause-ends : goal.returns-in-Some-clause-ends
 returns-in-Some-clause-ends c =
-    subst (λ (k : ℕ). IfOk c.add_root.result (λ found. IfSome found (λ end. (k ≤ end) × (end ≤ length c.args.input.now))))
-    c.in-Some.ensures.from (c.add_root.ensures.ends c.in-Some.ensures.within)
+    subst (λ (k : ℕ). IfOk c.add_root.result (λ found. IfSome found (λ end. (k < end) × (end ≤ length c.args.input.now))))
+    c.in-Some.ensures.from (c.add_root.ensures.ends (omega (arith, c.in-Some.ensures.from, c.in-Some.ensures.moves refl)) c.in-Some.ensures.within)

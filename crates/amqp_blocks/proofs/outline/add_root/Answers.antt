@@ -8,5 +8,5 @@ returns-clause-outline c = λ le l low h.
     (c.in_ok-add_values.ensures l low h) le
 
 pub returns-clause-ends : goal.returns-clause-ends
-returns-clause-ends c = λ le.
-    ended_within c.end.result c.args.root.now.from c.args.root.now.node.end (length c.args.input.now) c.end.ensures c.requires.begins le
+returns-clause-ends c = λ moves le.
+    ended_within c.end.result c.args.root.now.from c.args.root.now.node.end (length c.args.input.now) c.end.ensures moves le

@@ -1,4 +1,4 @@
-use Rattle.std.proofs.Common.{◌≡◌, ◌+◌, refl, subst, Option, IfSome}
+use Rattle.std.proofs.Common.{◌+◌, refl, subst, Option, IfSome}
 use Rattle.amqp_blocks.specs.declared.outline.Open.{Open}
 use Rattle.amqp_blocks.specs.Outlines.{IsInside}
 use Rattle.amqp_blocks.proofs.OutlineLemmas.{entered, entered_open}

@@ -1,5 +1,4 @@
-use Rattle.std.proofs.Common.{◌≡◌, ◌∷◌, [], ap, ◌∙◌}
-use Rattle.amqp_nodes.specs.declared.nodes.Node.{Node}
+use Rattle.std.proofs.Common.{ap}
 use Rattle.amqp_blocks.specs.declared.outline.Open.{Open}
 use Rattle.amqp_blocks.proofs.OutlineLemmas.{meets}
 use Rattle.amqp_blocks.proofs.outline.meet.Goals as goal

@@ -1,4 +1,4 @@
-use Rattle.std.proofs.Common.{◌∙◌, ◌∷◌, ◌++◌, [], append-nil}
+use Rattle.std.proofs.Common.{◌∙◌, append-nil}
 use Rattle.amqp_blocks.proofs.outline.step.Goals as goal
 
 pub returns-in-None : goal.returns-in-None

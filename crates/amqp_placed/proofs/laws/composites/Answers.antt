@@ -3,4 +3,4 @@ use Rattle.amqp_placed.proofs.Composites.{composite_shown}
 use Rattle.amqp_placed.proofs.laws.composites.Goals as goal
 
 pub returns : goal.returns
-returns c = λ _ inputs e shown. composite_shown inputs e (table_with c.C.Composite.names c.C.FieldList.list) shown
+returns c = λ _ e shown. composite_shown e (table_with c.C.Composite.names c.C.FieldList.list) shown

@@ -17,28 +17,28 @@ pub returns-clause-outcome : goal.returns-clause-outcome
 returns-clause-outcome c = outcome_shown
 
 pub returns-clause-opening : goal.returns-clause-opening
-returns-clause-opening c = λ inputs e other new. composite_shown inputs e opening (open_fields inputs e other new)
+returns-clause-opening c = λ e new. composite_shown e opening (open_fields e new)
 
 pub returns-clause-beginning : goal.returns-clause-beginning
-returns-clause-beginning c = λ inputs e other new. composite_shown inputs e begin (begin_fields inputs e other new)
+returns-clause-beginning c = λ e new. composite_shown e begin (begin_fields e new)
 
 pub returns-clause-flow : goal.returns-clause-flow
-returns-clause-flow c = λ inputs e other new. composite_shown inputs e flow (flow_fields inputs e other new)
+returns-clause-flow c = λ e new. composite_shown e flow (flow_fields e new)
 
 pub returns-clause-transfer : goal.returns-clause-transfer
-returns-clause-transfer c = λ inputs e other new. composite_shown inputs e transfer (transfer_fields inputs e other new)
+returns-clause-transfer c = λ e new. composite_shown e transfer (transfer_fields e new)
 
 pub returns-clause-disposition : goal.returns-clause-disposition
-returns-clause-disposition c = λ inputs e other new. composite_shown inputs e disposition (disposition_fields inputs e other new)
+returns-clause-disposition c = λ e new. composite_shown e disposition (disposition_fields e new)
 
 pub returns-clause-detach : goal.returns-clause-detach
-returns-clause-detach c = λ inputs e other new. composite_shown inputs e detach (detach_fields inputs e other new)
+returns-clause-detach c = λ e new. composite_shown e detach (detach_fields e new)
 
 pub returns-clause-ending : goal.returns-clause-ending
-returns-clause-ending c = λ inputs e other new. composite_shown inputs e ending (end_fields inputs e other new)
+returns-clause-ending c = λ e new. composite_shown e ending (end_fields e new)
 
 pub returns-clause-closing : goal.returns-clause-closing
-returns-clause-closing c = λ inputs e other new. composite_shown inputs e close (close_fields inputs e other new)
+returns-clause-closing c = λ e new. composite_shown e close (close_fields e new)
 
 pub returns-clause-attach : goal.returns-clause-attach
 returns-clause-attach c = attach_shown

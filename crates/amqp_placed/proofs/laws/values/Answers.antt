@@ -9,9 +9,9 @@ pub returns-clause-value : goal.returns-clause-value
 returns-clause-value c = value_shown
 
 pub returns-clause-map : goal.returns-clause-map
-returns-clause-map c = λ inputs e other new. map_shown value_type value_type inputs e new (value_shown inputs e other new)
-    (value_shown inputs e other new)
+returns-clause-map c = λ e new. map_shown value_type value_type e new (value_shown e new)
+    (value_shown e new)
 
 pub returns-clause-simple : goal.returns-clause-simple
-returns-clause-simple c = λ inputs e other new.
-    either_shown inputs e is_container_code never_simple value_type.faults (invalid_shown inputs e) (value_shown inputs e other new)
+returns-clause-simple c = λ e new.
+    either_shown e is_container_code never_simple value_type.faults (invalid_shown e) (value_shown e new)

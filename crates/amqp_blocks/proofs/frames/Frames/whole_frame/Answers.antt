@@ -1,6 +1,6 @@
-use Rattle.std.proofs.Common.{arith, length, take, sym, subst}
+use Rattle.std.proofs.Common.{arith, length, take, refl, sym, subst}
 use Rattle.std.proofs.lemmas.List.{length-take-le}
-use Rattle.amqp_blocks.specs.Blocks.{IsTile}
+use Rattle.amqp_blocks.specs.Blocks.{IsFrameOf, IsTile}
 use Rattle.amqp_blocks.specs.declared.block.Subject.TheVariants.{Frame, NoFrame}
 use Rattle.amqp_blocks.proofs.BlockLemmas.{block_begins, body_begins}
 use Rattle.amqp_blocks.proofs.frames.Frames.whole_frame.Goals as goal
@@ -19,5 +19,16 @@ returns c =
     let x = body.0 in
     let is = c.as_frame.ensures.block NoFrame at x n body.3 in
     let payload = subst (λ k. IsTile x k c.as_frame.result.payload) (sym is.len) (rw c.as_frame.ensures.payload body.4) in
+    let whole : IsFrameOf input frame.header.kind at c.as_frame.result.len = record {
+      max = c.requires.0;
+      header = frame.header;
+      extended = frame.extended.now;
+      body = frame.body.now;
+      begins = c.requires.1;
+      is_kind = refl;
+      size = omega (arith, h.3, all, is.len);
+      data_offset = h.4;
+    } in
     block_begins (Frame frame.header.kind) at x n c.as_frame.result input is body.1 body.2 (omega (arith, all, h.2))
-    (h.0, rw c.as_frame.ensures.extended c.some_span.ensures, payload)
+    (λ some. omega (arith, all, h.0, h.1))
+    (whole, h.0, rw c.as_frame.ensures.extended c.some_span.ensures, payload)

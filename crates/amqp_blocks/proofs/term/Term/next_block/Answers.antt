@@ -7,4 +7,4 @@ pub returns-clause-block : goal.returns-clause-block
 returns-clause-block c =
     let len = length c.args.input.now in
     block_begins Rest 0 0 len c.in_ok-block.block c.args.input.now
-    (c.in_ok-block.ensures Rest 0 0 len (c.new.ensures 0 0) (omega (arith, c.at-fault.ensures))) (omega arith) (omega arith) (omega arith) tt
+    (c.in_ok-block.ensures Rest 0 0 len (c.new.ensures 0 0) (omega (arith, c.at-fault.ensures))) (omega arith) (omega arith) (omega arith) (λ some. some) tt

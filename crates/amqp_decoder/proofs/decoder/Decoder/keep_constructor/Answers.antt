@@ -38,19 +38,19 @@ returns-in_err-keep_descriptor_bytes-clause-err g c = λ told.
     let p = err_from_is_err_and c.from_residual-in_err-keep_descriptor_bytes.result
     c.from_residual-in_err-keep_descriptor_bytes.ensures.1 in
     let marks = rw c.loop-code-test.true at (c.loop-code.invariant.kept told) in
-    rw (p.1, p.2) (unmarked_name _ _ _ _ _ _ _ marks (c.in_err-keep_descriptor_bytes.ensures.err told))
+    rw (p.1, p.2) (unmarked_name _ _ _ _ _ _ _ (omega (arith, c.loop-code.invariant.few, c.if-count-eq-NESTING.false)) marks (c.in_err-keep_descriptor_bytes.ensures.err told))
 
 pub returns-in_err-code-2-clause-err : goal.returns-in_err-code-2-clause-err
 returns-in_err-code-2-clause-err g c = λ told.
     let p = err_from_is_err_and c.from_residual-in_err-code-2.result c.from_residual-in_err-code-2.ensures.1 in
     let marks = rw c.loop-code-test.true at (c.loop-code.invariant.kept told) in
     let named = marks_named _ _ _ _ _ _ _ marks (c.in_ok-keep_descriptor_bytes.ensures.ok told) in
-    rw (p.1, p.2) (unmarked_code _ _ _ _ _ _ _ named (c.in_err-code-2.ensures.err told))
+    rw (p.1, p.2) (unmarked_code _ _ _ _ _ _ _ (omega (arith, c.loop-code.invariant.few, c.if-count-eq-NESTING.false)) named (c.in_err-code-2.ensures.err told))
 
 pub returns-in_err-check_known-clause-err : goal.returns-in_err-check_known-clause-err
 returns-in_err-check_known-clause-err g c = λ told.
     let p = err_from_is_err_and c.from_residual-in_err-check_known.result c.from_residual-in_err-check_known.ensures.1 in
-    rw (p.1, p.2) (unmarked_unknown _ _ _ _ _ _ _ _ (c.loop-code.invariant.kept told) c.in_err-check_known.ensures.err
+    rw (p.1, p.2) (unmarked_unknown _ _ _ _ _ _ _ _ c.loop-code.invariant.few (c.loop-code.invariant.kept told) c.in_err-check_known.ensures.err
     c.in_err-check_known.ensures.place)
 
 pub returns-clause-ok : goal.returns-clause-ok

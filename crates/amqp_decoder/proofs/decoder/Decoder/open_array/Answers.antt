@@ -15,7 +15,7 @@ returns-in_err-take_constructor-clause-err g c = λ told own at.
     let opened = c.in_ok-count.ensures.ok told in
     let none = ap (λ (z : State). z.top.shared) opened.entered in
     let some : 0 < max c.in_ok-count.count c.in_ok-count.content = omega (arith, c.max.ensures, c.if-max-eq0.false) in
-    rw (p.1, p.2) (stopped_start _ _ _ _ _ _ _ _ opened.header some opened.entered own (c.in_err-take_constructor.ensures.err told none))
+    rw (p.1, p.2) (stopped_start _ _ _ _ _ _ _ _ opened.header opened.room some opened.entered own (c.in_err-take_constructor.ensures.err told none))
 
 pub returns-then-max-eq0-clause-ok : goal.returns-then-max-eq0-clause-ok
 returns-then-max-eq0-clause-ok g c = λ told.

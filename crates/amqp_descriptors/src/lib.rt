@@ -1,0 +1,19 @@
+//! The standard's described types by their descriptors (Part 1, section 1.5): the type that a code or a symbol names, what it describes, and
+//! the names, the default values and the meanings of its fields.
+#![tactic(auto)]
+
+mod codes;
+mod content;
+mod defaults;
+mod fields;
+mod meanings;
+mod symbols;
+mod type_names;
+
+pub use codes::type_of_code;
+pub use content::{Content, content_of, is_section};
+pub use defaults::default_of;
+pub use fields::{field_name, field_names, missing_field};
+pub use meanings::meaning;
+pub use symbols::code_of_symbol;
+pub use type_names::{name_of, names};
