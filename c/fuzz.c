@@ -109,6 +109,13 @@ void *__wrap_malloc(size_t len) { return ++allocations == refused ? NULL : __rea
 
 void *__wrap_realloc(void *at, size_t len) { return ++allocations == refused ? NULL : __real_realloc(at, len); }
 
+/* A block of this program's own, which isn't counted. */
+static uint8_t *own_block(size_t len) { return __real_malloc(len); }
+
+#else
+
+static uint8_t *own_block(size_t len) { return malloc(len); }
+
 #endif
 
 /* Places. */
@@ -137,7 +144,7 @@ static struct room open_room(unsigned which, enum place place, size_t len) {
     static uint8_t *pages[3];
     struct room made = {NULL, len, len > LARGEST - MARGIN ? IN_HEAP : place};
     if (made.place == IN_HEAP) {
-        made.at = malloc(len);
+        made.at = own_block(len);
         if (made.at == NULL && len > 0)
             exit(2);
     } else {
