@@ -43,6 +43,7 @@ section_text c {u} {w} s a = record {
   is_least = u.is_least;
   bound = term_bound u;
   rewriting = rewrites a;
+  lasting = λ input v n h. tt;
   begins = λ v i l more. (c, refl, begins_as_section c w s v more);
   ends = λ more f. tt;
 }
@@ -155,7 +156,6 @@ module _ {T : Type 0} (c : ℕ) {u : TermType T} {w : Writing T} (s : IsSection 
             record { after = k.after; read = (begins_so (sections_in v) l more, k.read); left = k.left });
         text_again = x.text_again;
         value = λ input v n h. x.value input v n (as_batch input v n h);
-        lasting = λ input v n h. some_read _ (sections_in v) h.after h.read.0 h.read.1;
         own = λ input v n h. x.own input v n (as_batch input v n h);
         large = λ input v n e h. x.large input v n e (as_batch input v n h);
         bounded = begins_without_limits group (group_bound c u);
@@ -173,6 +173,7 @@ module _ {T : Type 0} (c : ℕ) {u : TermType T} {w : Writing T} (s : IsSection 
     is_least = false;
     bound = group_bound c u;
     rewriting = run_rewrites;
+    lasting = λ input b n h. some_read _ (sections_in b) h.after h.read.0 h.read.1;
     begins = λ b i l more. (c, refl, begins_so (sections_in b) l more);
     ends = λ more f. f c refl;
   }

@@ -133,7 +133,6 @@ module _ {V : Type 0} (r : Reading V) where
         record { after = k.after; read = record { seen = _; alike = refl; read = k.read }; left = k.left });
     text_again = x.text_again;
     value = λ input v n h. x.value input v n (unseen input v n h);
-    lasting = λ input v n h. x.lasting input v n (unseen input v n h);
     own = λ input v n h. x.own input v n (unseen input v n h);
     large = λ input v n e h. x.large input v n e (unseen input v n h);
     bounded = λ limits input v n h.
@@ -153,6 +152,7 @@ module _ {V : Type 0} (r : Reading V) where
     is_least = t.is_least;
     bound = seen_bound t.bound;
     rewriting = seen_rewrites t.rewriting;
+    lasting = λ input v n h. t.lasting input v n (unseen input v n h);
     begins = t.begins;
     ends = t.ends;
   }

@@ -297,7 +297,6 @@ module _ {B : Type 0}
           ),
         ),
       );
-      from_last = λ v l. l.1.1.1.1.1.0;
       to_kept = λ v k. (
         any_value v.header,
         (

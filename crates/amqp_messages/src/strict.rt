@@ -146,13 +146,14 @@ pub fn canonical_text_strict<B: CanonicalBody>(
     ensures text { IfOk result (λ text. IsRewritten ⟦<Strict<B> as Deserialize>⟧.reading ⟦<Strict<B> as Serialize>⟧.writing.canons
         input.now text.items (length input.now)) }
     ensures read_again { IfOk result (λ text. IsReadAgain ⟦<Strict<B> as Deserialize>⟧.reading ⟦<Strict<B> as Canonical>⟧.follows
-        ⟦<Strict<B> as Canonical>⟧.again ⟦<Strict<B> as Canonical>⟧.kept input.now text.items (length input.now)) }
+        ⟦<Strict<B> as Canonical>⟧.again ⟦<Strict<B> as Canonical>⟧.kept ⟦<Strict<B> as Canonical>⟧.lasts input.now text.items
+        (length input.now)) }
     ensures one_text { IfOk result (λ text. IsOneText ⟦<Strict<B> as Deserialize>⟧.reading ⟦<Strict<B> as Serialize>⟧.writing.canons
         input.now text.items (length input.now)) }
     ensures no_other { IfOk result (λ text. IsOfNoOther ⟦<Strict<B> as Deserialize>⟧.reading ⟦<Strict<B> as Serialize>⟧.writing.canons
-        ⟦<Strict<B> as Canonical>⟧.kept input.now text.items (length input.now)) }
+        ⟦<Strict<B> as Canonical>⟧.kept ⟦<Strict<B> as Canonical>⟧.lasts input.now text.items (length input.now)) }
     ensures unchanged { IfOk result (λ text. IsUnchanged ⟦<Strict<B> as Deserialize>⟧.reading ⟦<Strict<B> as Serialize>⟧.writing.canons
-        text.items) }
+        ⟦<Strict<B> as Canonical>⟧.lasts input.now text.items (length input.now)) }
     ensures refused { IfErr result (λ e. (e ≡ Memory) ⊎ (IsUnreadable ⟦<Strict<B> as Deserialize>⟧.reading input.now e
         ⊎ IsUnwritten ⟦<Strict<B> as Deserialize>⟧.reading ⟦<Strict<B> as Serialize>⟧.writing.canons input.now e)) }
     ensures unfailing { IfErr result (λ e. IsReadError e → ⊥) }
@@ -186,13 +187,14 @@ pub fn canonical_text_strict_within<B: CanonicalBody>(
     ensures text { IfOk result (λ text. IsRewrittenWithin limits.now ⟦<Strict<B> as Deserialize>⟧.reading
         ⟦<Strict<B> as Serialize>⟧.writing.canons input.now text.items (length input.now)) }
     ensures read_again { IfOk result (λ text. IsReadAgain ⟦<Strict<B> as Deserialize>⟧.reading ⟦<Strict<B> as Canonical>⟧.follows
-        ⟦<Strict<B> as Canonical>⟧.again ⟦<Strict<B> as Canonical>⟧.kept input.now text.items (length input.now)) }
+        ⟦<Strict<B> as Canonical>⟧.again ⟦<Strict<B> as Canonical>⟧.kept ⟦<Strict<B> as Canonical>⟧.lasts input.now text.items
+        (length input.now)) }
     ensures one_text { IfOk result (λ text. IsOneText ⟦<Strict<B> as Deserialize>⟧.reading ⟦<Strict<B> as Serialize>⟧.writing.canons
         input.now text.items (length input.now)) }
     ensures no_other { IfOk result (λ text. IsOfNoOther ⟦<Strict<B> as Deserialize>⟧.reading ⟦<Strict<B> as Serialize>⟧.writing.canons
-        ⟦<Strict<B> as Canonical>⟧.kept input.now text.items (length input.now)) }
+        ⟦<Strict<B> as Canonical>⟧.kept ⟦<Strict<B> as Canonical>⟧.lasts input.now text.items (length input.now)) }
     ensures unchanged { IfOk result (λ text. IsUnchanged ⟦<Strict<B> as Deserialize>⟧.reading ⟦<Strict<B> as Serialize>⟧.writing.canons
-        text.items) }
+        ⟦<Strict<B> as Canonical>⟧.lasts input.now text.items (length input.now)) }
     ensures refused { IfErr result (λ e. (e ≡ Memory) ⊎ (IsUnreadableWithin limits.now ⟦<Strict<B> as Deserialize>⟧.reading input.now e
         ⊎ IsUnwrittenWithin limits.now ⟦<Strict<B> as Deserialize>⟧.reading ⟦<Strict<B> as Serialize>⟧.writing.canons input.now e)) }
     ensures unfailing { IfErr result (λ e. IsReadError e → ⊥) }

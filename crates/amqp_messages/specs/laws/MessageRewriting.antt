@@ -207,10 +207,6 @@ module _ {M V : Type 0} (o : Order) (s : Shape M V) where
   row_values (entry e es) m h =
       (some_as (IsSound e.text) e.text.writing.is_value (λ g k. k.value) (e.get m) h.0, row_values es m h.1)
 
-  row_lasts : (es : Entries s.kind_of) (m : M) → AreSound es m → Last es m
-  row_lasts no_more m h = tt
-  row_lasts (entry e es) m h = (some_as (IsSound e.text) e.text.lasts (λ g k. k.lasting) (e.get m) h.0, row_lasts es m h.1)
-
   row_canons : (es : Entries s.kind_of) (m n : M) → AreSame es m n → row_of es m ≡ row_of es n
   row_canons no_more m n h = refl
   row_canons (entry e es) m n h = ap₂ (λ a b. a ++ b) (at_one (e.get m) (e.get n) h.0) (row_canons es m n h.1)
@@ -279,7 +275,6 @@ module _ {M V : Type 0} (o : Order) (s : Shape M V) where
     pub to_value : (v : V) → is_value v → AreValues entries (parts v)
     pub from_value : (v : V) → AreValues entries (parts v) → is_value v
     pub to_last : (v : V) → lasts v → Last entries (parts v)
-    pub from_last : (v : V) → Last entries (parts v) → lasts v
     pub to_kept : (v : V) → kept v → AreKept entries (parts v)
     pub to_same : (v u : V) → s.same v u → AreSame entries (parts v) (parts u)
     pub from_same : (v u : V) → AreSame entries (parts v) (parts u) → s.same v u
@@ -331,7 +326,6 @@ module _ {M V : Type 0} (o : Order) (s : Shape M V) where
           text_is (again v) ∙ row_again y.entries (y.parts v) (y.parts (again v)) (y.agains v) (y.to_value v i) (writable v f)
           ∙ sym (text_is v);
       value = λ input v n h. y.from_value v (row_values y.entries (y.parts v) (sound input v n h));
-      lasting = λ input v n h. y.from_last v (row_lasts y.entries (y.parts v) (sound input v n h));
       own = λ input v n h k.
           y.from_same (again v) v (row_own y.entries (y.parts v) (y.parts (again v)) (y.agains v) (sound input v n h) (y.to_kept v k));
       large = λ input v n e h u.
