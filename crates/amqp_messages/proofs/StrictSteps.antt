@@ -9,7 +9,7 @@ use Rattle.amqp_bodies.specs.Bodies.{Made}
 use Rattle.amqp_messages.specs.declared.order.Order.TheVariants.{Any, Written}
 use Rattle.amqp_messages.specs.declared.strict.Strict.{Strict}
 use Rattle.amqp_messages.specs.MessageWalk.{message_walk}
-use Rattle.amqp_messages.specs.MessageTypes.{message_of, message_in}
+use Rattle.amqp_messages.specs.Messages.{message_of, message_in}
 use Rattle.amqp_messages.proofs.OrderLaws.{strict_begins, strict_whole}
 
 module _ {S B : Type 0} (made : Made S B) where
