@@ -99,8 +99,8 @@ strictly made = reading_via (walk_reading (message_walk Written (message_of made
 
 -- The terms that they are written as.
 abbrev pub message_terms : {B : Type 0} → Writing B → Message B → List Term
-message_terms body =
-    (message_writing (
+message_terms {B} body =
+    (message_writing {B = B} (
       writing_of (composite header) refl,
       (
         writing_of delivery_annotations refl,

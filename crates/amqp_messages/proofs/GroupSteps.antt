@@ -4,8 +4,8 @@ use Rattle.std.proofs.lemmas.Bool.{eqb-true}
 use Rattle.amqp_wire.specs.declared.error.Error.{Error}
 use Rattle.amqp_decoder.specs.State.{State}
 use Rattle.amqp_codec.specs.laws.Refusal.{refused_first}
-use Rattle.amqp_messages.specs.Kinds.{Kinds, none, kind, is_in, has, Fields, AreApart}
-use Rattle.amqp_messages.specs.KindsReading.{Readings, Reads, KindFault}
+use Rattle.amqp_messages.specs.Kinds.{Kinds, none, kind, is_in, Fields}
+use Rattle.amqp_messages.specs.KindsReading.{has, AreApart, Readings, Reads, KindFault}
 use Rattle.amqp_messages.specs.laws.KindsReading.{not_in, reads_has}
 use Rattle.amqp_bodies.specs.Bodies.{Made}
 use Rattle.amqp_messages.specs.MessageKinds.{seven}
@@ -58,7 +58,7 @@ pub put_code : {S B : Type 0} (made : Made S B) (n d : ℕ) → IsPlace (seven S
     (answer : Result (Unit {0}) Error) (b : State) → PutsAt (seven S) (readings_of made.group) n m x st answer b
     → AnswersGroup (seven S) (readings_of made.group) c m x st answer b
 put_code {S} made n d i c e m x st answer b h =
-    put_answer (seven S) (readings_of made.group) seven_apart n c m x st answer b (subst (IsPlace (seven S) n) (sym e) i) h
+    put_answer (seven S) (readings_of made.group) (seven_apart S) n c m x st answer b (subst (IsPlace (seven S) n) (sym e) i) h
 
 not_true : (b : Bool) → (b ≡ true → ⊥) → b ≡ false
 not_true true h = absurd (h refl)
@@ -80,9 +80,9 @@ or_last true y no h = refl
 or_last false y no h = absurd (cc)
 
 -- a section of no other kind is a body's
-pub at_body : {S : Type 0} (c : ℕ) → has (seven S) c ≡ true → (c ≡ 0x70 → ⊥) → (c ≡ 0x71 → ⊥) → (c ≡ 0x72 → ⊥) → (c ≡ 0x73 → ⊥)
+pub at_body : (S : Type 0) (c : ℕ) → has (seven S) c ≡ true → (c ≡ 0x70 → ⊥) → (c ≡ 0x71 → ⊥) → (c ≡ 0x72 → ⊥) → (c ≡ 0x73 → ⊥)
     → (c ≡ 0x74 → ⊥) → (c ≡ 0x78 → ⊥) → IsPlace (seven S) 5 c
-at_body c among h d m p a f =
+at_body S c among h d m p a f =
     let header = other_code c 0x70 h in
     let delivery = other_code c 0x71 d in
     let message = other_code c 0x72 m in

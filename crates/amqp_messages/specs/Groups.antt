@@ -10,8 +10,8 @@ use Rattle.amqp_batches.specs.Walk.{IsAtTop}
 use Rattle.amqp_batches.specs.NoSections.{NoSection}
 use Rattle.amqp_messages.specs.declared.order.Order.{Order}
 use Rattle.amqp_messages.specs.Orders.{further, IsFull}
-use Rattle.amqp_messages.specs.Kinds.{Kinds, Group, Fields, put, behind_code, AreApart}
-use Rattle.amqp_messages.specs.KindsReading.{Readings, Reads, KindFault, SameFields, weight}
+use Rattle.amqp_messages.specs.Kinds.{Kinds, Group, Fields, put, behind_code}
+use Rattle.amqp_messages.specs.KindsReading.{AreApart, Readings, Reads, KindFault, SameFields, weight}
 
 -- What is made of the last group of each kind, or why nothing is.
 pub record Ending (ks : Kinds) (rs : Readings ks) (V : Type 0) : Type 1 where

@@ -1,6 +1,6 @@
 -- The kinds of groups that a message is made of, as one list in the standard's order (Part 3, section 3.2).
 use Rattle.std.proofs.Common.{inl, inr}
-use Rattle.std.specs.Prelude.{◌≡◌, ◌⊎◌, ℕ, suc, ◌<◌, ◌≤◌, Bool, true, false, ◌||◌, eqb, cond, List, [], ◌∷◌, ◌++◌, length, Option, Some, None, IfSome}
+use Rattle.std.specs.Prelude.{◌≡◌, ◌⊎◌, ℕ, suc, ◌<◌, ◌≤◌, Bool, true, false, ◌||◌, eqb, cond, List, [], ◌∷◌, ◌++◌, length, Option, Some, None}
 use Rattle.amqp_lookahead.specs.Sections.{IsSectionAhead}
 use Rattle.amqp_batches.specs.Spellings.{Spells, Are}
 
@@ -92,29 +92,3 @@ pub record IsInOrder {V : Type 0} (ks : Kinds) (ss : ForEach Spells ks) (made : 
   pub fall : Fall ks (size ks) groups
   pub ended : more ≡ []
   pub is : made (put_all ks groups (nothing ks)) v
-
--- No code is of two kinds.
-abbrev pub has : Kinds → ℕ → Bool
-has none c = false
-has (kind T codes ks) c = is_in codes c || has ks c
-
-abbrev pub AreNotIn : Kinds → List ℕ → Type 0
-AreNotIn ks [] = Unit {0}
-AreNotIn ks (c ∷ cs) = (has ks c ≡ false) × AreNotIn ks cs
-
-abbrev pub AreApart : Kinds → Type 0
-AreApart none = Unit {0}
-AreApart (kind T codes ks) = AreNotIn ks codes × AreApart ks
-
--- A property of each kind, and what has it: a group, and all that there are.
-abbrev pub Properties : Kinds → Type 1
-Properties ks = ForEach (λ T. T → Type 0) ks
-
-abbrev pub HasProperty : (ks : Kinds) → Properties ks → Group ks → Type 0
-HasProperty none ps g = ⊥
-HasProperty (kind T codes ks) ps (inl g) = ps.0 g
-HasProperty (kind T codes ks) ps (inr g) = HasProperty ks ps.1 g
-
-abbrev pub AllHave : (ks : Kinds) → Properties ks → Fields ks → Type 0
-AllHave none ps m = Unit {0}
-AllHave (kind T codes ks) ps m = IfSome m.0 ps.0 × AllHave ks ps.1 m.1

@@ -1,6 +1,6 @@
 -- How a group of some kinds is read, by the code of the section that comes next.
 use Rattle.std.proofs.Common.{inl, inr}
-use Rattle.std.specs.Prelude.{◌≡◌, ◌⊎◌, ℕ, ◌+◌, Bool, true, Option, Some, None}
+use Rattle.std.specs.Prelude.{◌≡◌, ◌⊎◌, ℕ, ◌+◌, Bool, true, false, ◌||◌, List, [], ◌∷◌, Option, Some, None}
 use Rattle.amqp_model.specs.FieldRules.{SameOption}
 use Rattle.amqp_decoder.specs.State.{State}
 use Rattle.amqp_decoder.specs.Places.{Located}
@@ -41,3 +41,16 @@ count_in count (Some v) = count v
 abbrev pub weight : (ks : Kinds) → Readings ks → Fields ks → ℕ
 weight none rs m = 0
 weight (kind T codes ks) rs m = count_in rs.0.count m.0 + weight ks rs.1 m.1
+
+-- No code is of two kinds.
+abbrev pub has : Kinds → ℕ → Bool
+has none c = false
+has (kind T codes ks) c = is_in codes c || has ks c
+
+abbrev pub AreNotIn : Kinds → List ℕ → Type 0
+AreNotIn ks [] = Unit {0}
+AreNotIn ks (c ∷ cs) = (has ks c ≡ false) × AreNotIn ks cs
+
+abbrev pub AreApart : Kinds → Type 0
+AreApart none = Unit {0}
+AreApart (kind T codes ks) = AreNotIn ks codes × AreApart ks

@@ -4,9 +4,9 @@ use Rattle.std.specs.Prelude.{◌≡◌, ◌⊎◌, true, List, [], ◌∷◌, O
 use Rattle.std.proofs.Common.{map}
 use Rattle.amqp_batches.specs.GroupTexts.{GroupText, IsSound}
 use Rattle.amqp_batches.specs.laws.Resuming.{IsRead}
-use Rattle.amqp_messages.specs.Kinds.{Kinds, none, kind, is_in, Fields, Group, Properties}
+use Rattle.amqp_messages.specs.Kinds.{Kinds, none, kind, is_in, Fields, Group}
 use Rattle.amqp_messages.specs.KindsReading.{Readings}
-use Rattle.amqp_messages.specs.KindsWriting.{Writings}
+use Rattle.amqp_messages.specs.KindsWriting.{Properties, Writings}
 
 -- The text of a group of each kind.
 abbrev pub Texts : (ks : Kinds) → Readings ks → Type 1

@@ -1,14 +1,15 @@
 -- A message is read again from its text (Part 3, section 3.2).
 use Rattle.std.specs.Prelude.{String}
 use Rattle.std.proofs.Common.{◌≡◌, ◌⊎◌, inl, inr, ℕ, ◌≤◌, Global, List, [], ◌++◌, length, take, drop, option_map, Option, Some, None, IfSome, refl, sym, ap, ap₂, subst, false}
+use Rattle.std.proofs.lemmas.List.{append-nil}
 use Rattle.amqp_model.specs.FieldType.{normal}
 use Rattle.amqp_wire.specs.declared.error.Error.{Error}
-use Rattle.amqp_wire.specs.declared.error.Error.TheVariants.{TooLarge}
+use Rattle.amqp_wire.specs.declared.error.Error.TheVariants.{TooLarge, EmptyBody}
 use Rattle.amqp_encoder.specs.Passes.{row_text}
 use Rattle.amqp_codec.specs.Composite.{composite}
 use Rattle.amqp_codec.specs.Written.{Writing, AreWritable}
 use Rattle.amqp_codec.specs.Agreement.{Agreement}
-use Rattle.amqp_codec.specs.Reading.{Reading, BeginsWith}
+use Rattle.amqp_codec.specs.Reading.{Reading, BeginsWith, IsUnreadable, start}
 use Rattle.amqp_codec.specs.Rewriting.{Rewriting}
 use Rattle.amqp_values.specs.declared.value.Value.{Value}
 use Rattle.amqp_simple_values.specs.declared.simple.SimpleValue.{SimpleValue}
@@ -22,15 +23,16 @@ use Rattle.amqp_batches.specs.WalkReading.{walk_reading}
 use Rattle.amqp_batches.specs.laws.Bound.{begins_without_limits}
 use Rattle.amqp_batches.specs.laws.ReadAs.{IsReadAs}
 use Rattle.amqp_batches.specs.laws.Walk.{no_term}
-use Rattle.amqp_batches.specs.laws.Resuming.{IsRead}
+use Rattle.amqp_batches.specs.laws.Resuming.{IsRead, start_unlimited}
+use Rattle.amqp_batches.specs.Walk.{not_made}
 use Rattle.amqp_bodies.specs.Bodies.{Made}
 use Rattle.amqp_bodies.specs.BodyTexts.{IsBodyText, body_group}
 use Rattle.amqp_messages.specs.declared.order.Order.{Order}
 use Rattle.amqp_messages.specs.declared.order.Order.TheVariants.{Any, Written}
 use Rattle.amqp_messages.specs.declared.message.Message.{Message}
-use Rattle.amqp_messages.specs.Kinds.{Kinds, Fields, Group, nothing, put_all, Fall, AllHave, Properties}
+use Rattle.amqp_messages.specs.Kinds.{Kinds, Fields, Group, nothing, put_all, Fall}
 use Rattle.amqp_messages.specs.KindsReading.{Readings, SameFields}
-use Rattle.amqp_messages.specs.KindsWriting.{row_of, are_values}
+use Rattle.amqp_messages.specs.KindsWriting.{AllHave, Properties, row_of, are_values}
 use Rattle.amqp_messages.specs.KindsTexts.{Texts, writings_in, are_lasting, are_kept, were_read, are_sound, groups_of}
 use Rattle.amqp_messages.specs.KindsTexts as kinds
 use Rattle.amqp_messages.specs.MessageKinds.{seven, delivery_annotations, message_annotations, application_properties, footer}
@@ -38,11 +40,12 @@ use Rattle.amqp_messages.specs.MessageKinds.{spelled, fields_of, body_in, IsBody
 use Rattle.amqp_messages.specs.MessageWalk.{message_walk}
 use Rattle.amqp_messages.specs.MessageWriting.{groups_in, message_writing}
 use Rattle.amqp_messages.specs.MessageTexts.{texts}
-use Rattle.amqp_messages.specs.Messages.{readings_of, seven_apart, others_of, without_body, message_of}
+use Rattle.amqp_messages.specs.Builders.{with_body}
+use Rattle.amqp_messages.specs.Messages.{readings_of, seven_apart, others_of, without_body, IsUnmade, message_of}
 use Rattle.amqp_messages.specs.laws.KindsReading.{put_same}
-use Rattle.amqp_messages.specs.laws.KindsSpelled.{AreReadAs, are_bound, AreInPlace, OfGroups, groups_are_read, few_placed, fall_placed, falls_few}
+use Rattle.amqp_messages.specs.laws.KindsSpelled.{AreReadAs, are_bound, AreInPlace, OfGroups, groups_are_read, read_groups, few_placed, fall_placed, falls_few}
 use Rattle.amqp_messages.specs.laws.KindsRewriting.{read_are_sound, sound_are_values, row_canons, row_again, row_own, row_large}
-use Rattle.amqp_messages.specs.laws.KindsRewriting.{text_is_groups, groups_are, groups_fall, put_has, groups_were_read}
+use Rattle.amqp_messages.specs.laws.KindsRewriting.{text_is_groups, groups_are, groups_fall, put_has, groups_were_read, row_without, rest_has}
 use Rattle.amqp_messages.specs.laws.MessageLimits.{message_bound}
 use Rattle.amqp_messages.specs.laws.MessageSpelled.{are_read}
 
@@ -120,7 +123,7 @@ module _ {wa : Writing (List (OwnedKey × Value))} {ws : Writing (List (String G
       let groups = groups_of ks (kinds.again ks rs ts f) in
       record {
         groups = groups;
-        are = text_is_groups ks rs (spelled group) reads seven_apart ts f i last w;
+        are = text_is_groups ks rs (spelled group) reads (seven_apart B) ts f i last w;
         placed = in_place ks o groups (groups_fall ks (kinds.again ks rs ts f));
         ended = inr refl;
         is = subst (λ z. IsMadeOf made z v) (sym (groups_are ks (kinds.again ks rs ts f))) is;
@@ -205,3 +208,47 @@ module _ {wa : Writing (List (OwnedKey × Value))} {ws : Writing (List (String G
         (message_bound o (message_of made) (are_bound ks rs (spelled group) reads));
     least = λ h. absurd (no_term h);
   }
+
+  -- A message whose body is written as no section has the text of its other sections.
+  others_text : (v : Message B) → writing.canons v.body ≡ [] → row_of ks (writings_in ks rs ts) (groups_in v) ≡ row_of ks (writings_in ks rs ts) (others_of made v)
+  others_text v e = row_without ks (writings_in ks rs ts) (as_body v.body) (others_of made v) refl e
+
+  others_values : (v : Message B) → written.is_value v → AllHave ks (are_values ks (writings_in ks rs ts)) (others_of made v)
+  others_values v i = rest_has ks (are_values ks (writings_in ks rs ts)) (as_body v.body) (others_of made v) refl i
+
+  others_writable : (v : Message B) → writing.canons v.body ≡ [] → AreWritable (written.canons v)
+      → AreWritable (row_of ks (writings_in ks rs ts) (others_of made v))
+  others_writable v e w = subst AreWritable (others_text v e) w
+
+  -- It is read, in either order, with what takes the place of a body that isn't there.
+  pub without_sections : (o : Order) (v : Message B) (filler : B) → written.is_value v → AreWritable (written.canons v)
+      → writing.canons v.body ≡ [] → made.empty filler
+      → BeginsWith (walk_reading (message_walk o (message_of made))) (row_text (written.canons v)) (with_body filler (message_again again v))
+      (length (row_text (written.canons v)))
+  without_sections o v filler i w e takes =
+      let others = row_text (row_of ks (writings_in ks rs ts) (others_of made v)) in
+      let read = row_read o (others_of made v) (with_body filler (message_again again v)) (others_values v i) (others_have v)
+      (others_writable v e w) (record { fields = refl; body = takes }) in
+      subst (λ b. BeginsWith (walk_reading (message_walk o (message_of made))) b (with_body filler (message_again again v)) (length b))
+      (sym (ap row_text (others_text v e)))
+      (subst (λ b. BeginsWith (walk_reading (message_walk o (message_of made))) b (with_body filler (message_again again v)) (length others))
+      (append-nil others) read)
+
+  -- Or it is refused, if nothing does.
+  pub without_body_refused : (o : Order) (v : Message B) → written.is_value v → AreWritable (written.canons v)
+      → writing.canons v.body ≡ [] → ((filler : B) → made.empty filler → ⊥)
+      → IsUnreadable (walk_reading (message_walk o (message_of made))) (row_text (written.canons v)) EmptyBody
+  without_body_refused o v i w e none =
+      let f = others_of made v in
+      let text = row_text (row_of ks (writings_in ks rs ts) f) in
+      let groups = groups_of ks (kinds.again ks rs ts f) in
+      let k = read_groups o (message_of made) (spelled group) reads groups (start text) 7 (nothing ks) text [] (start_unlimited text)
+      (sym (append-nil text)) (in_place ks o groups (groups_fall ks (kinds.again ks rs ts f)))
+      (text_is_groups ks rs (spelled group) reads (seven_apart B) ts f (others_values v i) (others_have v) (others_writable v e w)) in
+      subst (λ b. IsUnreadable (walk_reading (message_walk o (message_of made))) b EmptyBody) (sym (ap row_text (others_text v e)))
+      (record {
+        left = 0;
+        fault = not_made k.number _ k.last k.steps (inr k.behind_it)
+            (subst (λ z. IsUnmade made z EmptyBody) (sym (groups_are ks (kinds.again ks rs ts f))) (refl, refl, none))
+            (sym (ap length k.behind_it));
+      })

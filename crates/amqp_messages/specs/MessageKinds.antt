@@ -62,7 +62,7 @@ by_type each body = (
 
 -- Which bytes are a group of each.
 abbrev pub spelled : {S : Type 0} → Spells S → ForEach Spells (seven S)
-spelled group = by_type (λ T u. IsTerm u) group
+spelled group = by_type {F = Spells} (λ T u. IsTerm u) group
 
 -- The fields of a message, with this group as its body.
 abbrev pub fields_of : {S B : Type 0} → Option S → Message B → Fields (seven S)

@@ -29,42 +29,42 @@ use Rattle.amqp_messages.specs.MessageKinds.{seven, delivery_annotations, messag
 use Rattle.amqp_messages.specs.Messages.{readings_of}
 use Rattle.amqp_messages.specs.laws.KindsReading.{or_true}
 
-header_code : IsSectionCode 0x70
+pub header_code : IsSectionCode 0x70
 header_code = record {
   is_code = (codes "amqp:header:list", (0, omega arith, refl), inl refl);
   short = refl;
   names = (0x53, 0x70 ∷ [], refl, (refl, refl, tt));
 }
 
-delivery_annotations_code : IsSectionCode 0x71
+pub delivery_annotations_code : IsSectionCode 0x71
 delivery_annotations_code = record {
   is_code = (codes "amqp:delivery-annotations:map", (1, omega arith, refl), inl refl);
   short = refl;
   names = (0x53, 0x71 ∷ [], refl, (refl, refl, tt));
 }
 
-message_annotations_code : IsSectionCode 0x72
+pub message_annotations_code : IsSectionCode 0x72
 message_annotations_code = record {
   is_code = (codes "amqp:message-annotations:map", (2, omega arith, refl), inl refl);
   short = refl;
   names = (0x53, 0x72 ∷ [], refl, (refl, refl, tt));
 }
 
-properties_code : IsSectionCode 0x73
+pub properties_code : IsSectionCode 0x73
 properties_code = record {
   is_code = (codes "amqp:properties:list", (3, omega arith, refl), inl refl);
   short = refl;
   names = (0x53, 0x73 ∷ [], refl, (refl, refl, tt));
 }
 
-application_properties_code : IsSectionCode 0x74
+pub application_properties_code : IsSectionCode 0x74
 application_properties_code = record {
   is_code = (codes "amqp:application-properties:map", (4, omega arith, refl), inl refl);
   short = refl;
   names = (0x53, 0x74 ∷ [], refl, (refl, refl, tt));
 }
 
-footer_code : IsSectionCode 0x78
+pub footer_code : IsSectionCode 0x78
 footer_code = record {
   is_code = (codes "amqp:footer:map", (8, omega arith, refl), inl refl);
   short = refl;

@@ -2,8 +2,8 @@
 use Rattle.std.proofs.Common.{Some}
 use Rattle.amqp_codec.specs.Written.{Writing}
 use Rattle.amqp_messages.specs.declared.message.Message.{Message}
-use Rattle.amqp_messages.specs.Kinds.{Fields, AllHave}
-use Rattle.amqp_messages.specs.KindsWriting.{Writings, row_of, are_values, row_proper}
+use Rattle.amqp_messages.specs.Kinds.{Fields}
+use Rattle.amqp_messages.specs.KindsWriting.{AllHave, Writings, row_of, are_values, row_proper}
 use Rattle.amqp_messages.specs.MessageKinds.{seven, fields_of}
 
 -- The groups as which a message is written.

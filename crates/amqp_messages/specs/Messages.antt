@@ -10,18 +10,18 @@ use Rattle.amqp_bodies.specs.Bodies.{Made}
 use Rattle.amqp_messages.specs.declared.message.Message.{Message}
 use Rattle.amqp_messages.specs.declared.message.Groups.{Groups}
 use Rattle.amqp_messages.specs.declared.strict.Strict.{Strict}
-use Rattle.amqp_messages.specs.Kinds.{Fields, AreApart}
-use Rattle.amqp_messages.specs.KindsReading.{Readings, SameFields, count_in, weight}
+use Rattle.amqp_messages.specs.Kinds.{Fields}
+use Rattle.amqp_messages.specs.KindsReading.{AreApart, Readings, SameFields, count_in, weight}
 use Rattle.amqp_messages.specs.laws.KindsReading.{same_sym, same_trans}
 use Rattle.amqp_messages.specs.MessageKinds.{seven, by_type, fields_of, body_in, IsBodyOf, IsMadeOf}
 use Rattle.amqp_messages.specs.Groups.{Ending, Shape}
 
 -- How each kind is read.
 abbrev pub readings_of : {S : Type 0} → Reading S → Readings (seven S)
-readings_of group = by_type (λ T u. reading_of u) group
+readings_of group = by_type {F = Reading} (λ T u. reading_of u) group
 
-pub seven_apart : {S : Type 0} → AreApart (seven S)
-seven_apart =
+pub seven_apart : (S : Type 0) → AreApart (seven S)
+seven_apart S =
     ((refl, tt), ((refl, tt), ((refl, tt), ((refl, tt), ((refl, tt), ((refl, (refl, (refl, tt))), ((refl, tt), tt)))))))
 
 -- The groups that were read.
@@ -102,7 +102,7 @@ module _ {S B : Type 0} (made : Made S B) where
 
   -- How a message is read, whose body is made so.
   abbrev pub message_of : Shape (Message B)
-  message_of = record { kinds = seven S; readings = rs; apart = seven_apart; ending = message_ending }
+  message_of = record { kinds = seven S; readings = rs; apart = seven_apart S; ending = message_ending }
 
 abbrev pub message_in : {B : Type 0} → Strict B → Message B
 message_in v = v.0

@@ -9,8 +9,8 @@ use Rattle.amqp_decoder.specs.Places.{Located}
 use Rattle.amqp_codec.specs.Reading.{looking, AreAlike}
 use Rattle.amqp_batches.specs.laws.State.{any_taken}
 use Rattle.amqp_batches.specs.Walk.{IsAtTop, Leaves}
-use Rattle.amqp_messages.specs.Kinds.{Kinds, none, kind, is_in, size, Fields, nothing, Group, behind, behind_code, put, has, AreNotIn, AreApart}
-use Rattle.amqp_messages.specs.KindsReading.{Readings, Reads, KindFault, SameGroup, SameFields, weight}
+use Rattle.amqp_messages.specs.Kinds.{Kinds, none, kind, is_in, size, Fields, nothing, Group, behind, behind_code, put}
+use Rattle.amqp_messages.specs.KindsReading.{has, AreNotIn, AreApart, Readings, Reads, KindFault, SameGroup, SameFields, weight}
 
 pub or_true : (a b : Bool) → a ≡ true → a || b ≡ true
 or_true true b h = refl

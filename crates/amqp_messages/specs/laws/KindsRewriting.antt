@@ -15,10 +15,9 @@ use Rattle.amqp_batches.specs.Spellings.{Spells, Are}
 use Rattle.amqp_batches.specs.laws.ReadAs.{IsReadAs}
 use Rattle.amqp_batches.specs.laws.Resuming.{IsRead}
 use Rattle.amqp_batches.specs.laws.Row.{row_text_none, row_text_joined, front_writable, back_writable, front_or_back, none_refused}
-use Rattle.amqp_messages.specs.Kinds.{Kinds, none, kind, ForEach, is_in, has, size, Fields, nothing, Group, IsGroup, behind, put, put_all, Fall, AreApart}
-use Rattle.amqp_messages.specs.Kinds.{Properties, HasProperty, AllHave}
-use Rattle.amqp_messages.specs.KindsReading.{Readings, SameFields}
-use Rattle.amqp_messages.specs.KindsWriting.{optional, row_of, are_values, one_proper, row_proper}
+use Rattle.amqp_messages.specs.Kinds.{Kinds, none, kind, ForEach, is_in, size, Fields, nothing, Group, IsGroup, behind, put, put_all, Fall}
+use Rattle.amqp_messages.specs.KindsReading.{has, AreApart, Readings, SameFields}
+use Rattle.amqp_messages.specs.KindsWriting.{Properties, HasProperty, AllHave, Writings, optional, row_of, are_values, one_proper, row_proper}
 use Rattle.amqp_messages.specs.KindsTexts.{Texts, writings_in, again, are_lasting, are_kept, were_read, are_sound, in_front, groups_of}
 use Rattle.amqp_messages.specs.laws.KindsReading.{or_true, or_other, not_in}
 use Rattle.amqp_messages.specs.laws.KindsSpelled.{AreReadAs}
@@ -227,3 +226,26 @@ all_read ks rs ss l (g ∷ gs) b more m (first, others, e, f, a) h =
 pub groups_were_read : (ks : Kinds) (rs : Readings ks) (ss : ForEach Spells ks) → AreReadAs ks rs ss → (gs : List (Group ks)) (b more : List ℕ)
     → Are (IsGroup ks ss) b gs more → AllHave ks (were_read ks rs) (put_all ks gs (nothing ks))
 groups_were_read ks rs ss l gs b more a = all_read ks rs ss l gs b more (nothing ks) a (nothing_has ks (were_read ks rs))
+
+-- There is no group of that kind yet.
+abbrev pub IsFree : (ks : Kinds) → Group ks → Fields ks → Type 0
+IsFree none g m = ⊥
+IsFree (kind T codes ks) (inl g) m = m.0 ≡ None
+IsFree (kind T codes ks) (inr g) m = IsFree ks g m.1
+
+abbrev pub terms_of : (ks : Kinds) → Writings ks → Group ks → List Term
+terms_of none ws g = []
+terms_of (kind T codes ks) ws (inl g) = ws.0.canons g
+terms_of (kind T codes ks) ws (inr g) = terms_of ks ws.1 g
+
+-- A group that is written as no section leaves no trace, and all else has the property.
+pub row_without : (ks : Kinds) (ws : Writings ks) (g : Group ks) (m : Fields ks) → IsFree ks g m → terms_of ks ws g ≡ []
+    → row_of ks ws (put ks g m) ≡ row_of ks ws m
+row_without none ws g m free e = absurd free
+row_without (kind T codes ks) ws (inl g) m free e = ap (λ ts. ts ++ row_of ks ws.1 m.1) (e ∙ sym (ap (optional ws.0.canons) free))
+row_without (kind T codes ks) ws (inr g) m free e = ap (λ ts. optional ws.0.canons m.0 ++ ts) (row_without ks ws.1 g m.1 free e)
+
+pub rest_has : (ks : Kinds) (ps : Properties ks) (g : Group ks) (m : Fields ks) → IsFree ks g m → AllHave ks ps (put ks g m) → AllHave ks ps m
+rest_has none ps g m free h = tt
+rest_has (kind T codes ks) ps (inl g) m free h = (subst (λ o. IfSome o ps.0) (sym free) tt, h.1)
+rest_has (kind T codes ks) ps (inr g) m free h = (h.0, rest_has ks ps.1 g m.1 free h.1)

@@ -2,7 +2,7 @@
 use Rattle.std.proofs.Common.{◌≡◌, ℕ, zero, suc, true, List, All, refl, arith}
 use Rattle.std.proofs.lemmas.List.Elements.{All-contains}
 use Rattle.amqp_lookahead.specs.Sections.{IsSectionAhead, sections}
-use Rattle.amqp_messages.specs.Kinds.{has}
+use Rattle.amqp_messages.specs.KindsReading.{has}
 use Rattle.amqp_messages.specs.MessageKinds.{seven}
 
 each_has : All (λ (r : ℕ × List ℕ). has (seven (Unit {0})) r.0 ≡ true) sections
@@ -17,6 +17,6 @@ each_has (suc (suc (suc (suc (suc (suc (suc zero))))))) d h = refl
 each_has (suc (suc (suc (suc (suc (suc (suc (suc zero)))))))) d h = refl
 each_has (suc (suc (suc (suc (suc (suc (suc (suc (suc k))))))))) d h = absurd (omega (arith, h))
 
-pub has_ahead : {S : Type 0} (rest : List ℕ) (c : ℕ) → IsSectionAhead rest c → has (seven S) c ≡ true
-has_ahead rest c h =
+pub has_ahead : (S : Type 0) (rest : List ℕ) (c : ℕ) → IsSectionAhead rest c → has (seven S) c ≡ true
+has_ahead S rest c h =
     All-contains (λ (r : ℕ × List ℕ). has (seven (Unit {0})) r.0 ≡ true) sections (c, h.is.0) each_has h.is.1

@@ -36,6 +36,6 @@ returns-in-120-clause-read g c tells among =
 
 pub returns-in_default-clause-read : goal.returns-in_default-clause-read
 returns-in_default-clause-read g c tells among =
-    put_answer (seven _) (readings_of g.B.FromBody.made.group) seven_apart 5 c.args.code (fields_in c.args.self.now) _ _ _ _
-    (at_body c.args.code among (search rules) (search rules) (search rules) (search rules) (search rules) (search rules))
+    put_answer (seven _) (readings_of g.B.FromBody.made.group) (seven_apart _) 5 c.args.code (fields_in c.args.self.now) _ _ _ _
+    (at_body _ c.args.code among (search rules) (search rules) (search rules) (search rules) (search rules) (search rules))
     (refl, (refl, (refl, (refl, (refl, (c.put_body.ensures.read tells, refl))))))
