@@ -121,7 +121,7 @@ module _ {T : Type 0} (c : ℕ) {u : TermType T} {w : Writing T} (s : IsSection 
       omega (arith, grows n mid zs ys b h, ap length k.grows, length-append xs (k.item ∷ []))
 
   -- what was read where a section came next isn't empty
-  some_read : (st : State) (vs : List T) (b : State) → IsSectionAhead st.rest c → Walked (run_walk c r) st vs b → vs ≡ [] → ⊥
+  pub some_read : (st : State) (vs : List T) (b : State) → IsSectionAhead st.rest c → Walked (run_walk c r) st vs b → vs ≡ [] → ⊥
   some_read st vs b ahead h e = by_steps h.number h.steps
     where
       by_steps : (n : ℕ) → Steps (run_walk c r) n st [] h.part h.last → ⊥

@@ -166,7 +166,7 @@ module _ {T : Type 0} (rv : Reading (AmqpValue T)) (rd : Reading (TransparentVec
       least = λ l. absurd (no_term l);
     }
 
-    lasting : (input : List ℕ) (v : Body T) (n : ℕ) → BeginsWith r input v n → DoesBodyLast v
+    pub lasting : (input : List ℕ) (v : Body T) (n : ℕ) → BeginsWith r input v n → DoesBodyLast v
     lasting input (Value v) n h = tv.lasting input v n (value_read input v n h)
     lasting input (Data v) n h = td.lasting input v n (data_read input v n h)
     lasting input (Sequence v) n h = ts.lasting input v n (sequence_read input v n h)

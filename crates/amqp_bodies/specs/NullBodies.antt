@@ -1,5 +1,5 @@
 -- The value of a body that takes the place of one that isn't there, as a null does (Part 3, section 3.2.8).
-use Rattle.std.proofs.Common.{ℕ, List, [], ◌∷◌, ◌++◌, refl, arith, inr}
+use Rattle.std.proofs.Common.{ℕ, List, [], ◌∷◌, ◌++◌, length, refl, arith, inr}
 use Rattle.amqp_model.specs.Term.{null, leaf, described, code}
 use Rattle.amqp_model.specs.Spelling.{IsSpelling, Names}
 use Rattle.amqp_model.specs.Standing.{whole}

@@ -119,7 +119,7 @@ module _ {V : Type 0} (r : Reading V) where
       let f = read_behind (start_within limits input) k.seen (start_within limits input) v h.after k.alike refl k.read in
       record { after = looking f.0 h.after; read = f.1; left = h.left }
 
-  unseen : (input : List ℕ) (v : V) (n : ℕ) → BeginsWith seen_reading input v n → BeginsWith r input v n
+  pub unseen : (input : List ℕ) (v : V) (n : ℕ) → BeginsWith seen_reading input v n → BeginsWith r input v n
   unseen = unseen_within greatest
 
   pub seen_rewrites : {canons : V → List Term} {is_value : V → Type 0} {follows : List ℕ → Type 0} {again : V → V}

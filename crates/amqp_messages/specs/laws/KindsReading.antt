@@ -89,7 +89,7 @@ nothing_same (kind T codes ks) rs = (tt, nothing_same ks rs.1)
 
 pub nothing_weight : (ks : Kinds) (rs : Readings ks) → weight ks rs (nothing ks) ≡ 0
 nothing_weight none rs = refl
-nothing_weight (kind T codes ks) rs = nothing_weight ks rs.1
+nothing_weight (kind T codes ks) rs = omega (arith, nothing_weight ks rs.1)
 
 -- how far was looked, and from which source, makes no difference
 pub reads_looked : (ks : Kinds) (rs : Readings ks) (c j : ℕ) (st : State) (g : Group ks) (b : State) → Reads ks rs c st g b
