@@ -28,7 +28,7 @@ PutsAt (kind T codes ks) rs (suc n) m x st answer b = (x.0 ≡ m.0) × PutsAt ks
 first_answer : (T : Type 0) (codes : _) (ks : Kinds) (rs : Readings (kind T codes ks)) → AreApart (kind T codes ks) → (c : ℕ)
     (m x : Fields (kind T codes ks)) (st : State) (answer : Result (Unit {0}) Error) (b : State) → is_in codes c ≡ true
     → AnswersPut rs.0 x.0 st answer b → x.1 ≡ m.1 → AnswersGroup (kind T codes ks) rs c m x st answer b
-first_answer T codes ks rs apart c m x st (Ok none) b i (v, r, e) same = (inl v, (i, r), ap₂ (λ y z. (y, z)) e same)
+first_answer T codes ks rs apart c m x st (Ok done) b i (v, r, e) same = (inl v, (i, r), ap₂ (λ y z. (y, z)) e same)
 first_answer T codes ks rs apart c m x st (Err e) b i h same =
     refused_first _ _ _ _ _ _ _ (λ _. refl) (λ f k. inl (i, k)) nothing_else h
   where
@@ -39,7 +39,7 @@ first_answer T codes ks rs apart c m x st (Err e) b i h same =
 later_answer : (T : Type 0) (codes : _) (ks : Kinds) (rs : Readings (kind T codes ks)) (c : ℕ)
     (m x : Fields (kind T codes ks)) (st : State) (answer : Result (Unit {0}) Error) (b : State) → is_in codes c ≡ false
     → x.0 ≡ m.0 → AnswersGroup ks rs.1 c m.1 x.1 st answer b → AnswersGroup (kind T codes ks) rs c m x st answer b
-later_answer T codes ks rs c m x st (Ok none) b i same (g, r, e) = (inr g, r, ap₂ (λ y z. (y, z)) same e)
+later_answer T codes ks rs c m x st (Ok done) b i same (g, r, e) = (inr g, r, ap₂ (λ y z. (y, z)) same e)
 later_answer T codes ks rs c m x st (Err e) b i same h = refused_first _ _ _ _ _ _ _ (λ _. refl) (λ f k. inr k) nothing_else h
   where
     nothing_else : ((g : _) (b : State) → Reads ks rs.1 c st g b → ⊥) → (g : _) (b : State) → Reads (kind T codes ks) rs c st g b → ⊥
@@ -65,24 +65,21 @@ not_true true h = absurd (h refl)
 not_true false h = refl
 
 beside : (x y : Bool) → x ≡ false → x || y ≡ true → y ≡ true
-beside true y no h = absurd (cc)
-beside false y no h = h
-
--- a kind with one code
-pub eqb_false : (c d : ℕ) → (c ≡ d → ⊥) → eqb c d ≡ false
-eqb_false c d not = not_true (eqb c d) (λ e. not (eqb-true c d e))
-
-pub other_code : (c d : ℕ) → (c ≡ d → ⊥) → is_in (d ∷ []) c ≡ false
-other_code c d not = ap (λ t. t || false) (eqb_false c d not)
+beside true y e h = absurd (cc)
+beside false y e h = h
 
 or_last : (x y : Bool) → y ≡ false → x || y ≡ true → x ≡ true
-or_last true y no h = refl
-or_last false y no h = absurd (cc)
+or_last true y e h = refl
+or_last false y e h = absurd (cc)
+
+-- a kind with one code
+other_code : (c d : ℕ) → (c ≡ d → ⊥) → is_in (d ∷ []) c ≡ false
+other_code c d not = ap (λ t. t || false) (not_true (eqb c d) (λ e. not (eqb-true c d e)))
 
 -- a section of no other kind is a body's
-pub at_body : (S : Type 0) (c : ℕ) → has (seven S) c ≡ true → (c ≡ 0x70 → ⊥) → (c ≡ 0x71 → ⊥) → (c ≡ 0x72 → ⊥) → (c ≡ 0x73 → ⊥)
-    → (c ≡ 0x74 → ⊥) → (c ≡ 0x78 → ⊥) → IsPlace (seven S) 5 c
-at_body S c among h d m p a f =
+at_body : (c : ℕ) → has (seven (Unit {0})) c ≡ true → (c ≡ 0x70 → ⊥) → (c ≡ 0x71 → ⊥) → (c ≡ 0x72 → ⊥) → (c ≡ 0x73 → ⊥)
+    → (c ≡ 0x74 → ⊥) → (c ≡ 0x78 → ⊥) → IsPlace (seven (Unit {0})) 5 c
+at_body c among h d m p a f =
     let header = other_code c 0x70 h in
     let delivery = other_code c 0x71 d in
     let message = other_code c 0x72 m in
@@ -90,3 +87,10 @@ at_body S c among h d m p a f =
     let application = other_code c 0x74 a in
     let left = beside _ _ application (beside _ _ properties (beside _ _ message (beside _ _ delivery (beside _ _ header among)))) in
     (header, (delivery, (message, (properties, (application, or_last _ _ (ap (λ t. t || false) (other_code c 0x78 f)) left)))))
+
+pub body_answer : {S B : Type 0} (made : Made S B) (c : ℕ) → has (seven (Unit {0})) c ≡ true → (c ≡ 0x70 → ⊥) → (c ≡ 0x71 → ⊥)
+    → (c ≡ 0x72 → ⊥) → (c ≡ 0x73 → ⊥) → (c ≡ 0x74 → ⊥) → (c ≡ 0x78 → ⊥) → (m x : Fields (seven S)) (st : State)
+    (answer : Result (Unit {0}) Error) (b : State) → PutsAt (seven S) (readings_of made.group) 5 m x st answer b
+    → AnswersGroup (seven S) (readings_of made.group) c m x st answer b
+body_answer {S} made c among h d n p a f m x st answer b puts =
+    put_answer (seven S) (readings_of made.group) (seven_apart S) 5 c m x st answer b (at_body c among h d n p a f) puts

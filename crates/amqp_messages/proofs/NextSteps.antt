@@ -1,5 +1,5 @@
 -- How it is found which section of a message comes next.
-use Rattle.std.proofs.Common.{◌≡◌, inl, inr, ℕ, ◌<◌, ◌≤◌, Bool, true, false, ◌||◌, cond, IsTrue, [], ◌∷◌, length, Option, Some, None, ◌⊎◌, refl, sym, ap}
+use Rattle.std.proofs.Common.{◌≡◌, inl, inr, ℕ, ◌<◌, ◌≤◌, Bool, true, false, IsTrue, [], length, Option, Some, None, ◌⊎◌, refl, sym, ap}
 use Rattle.std.proofs.Common.{◌∙◌, subst, arith}
 use Rattle.amqp_wire.specs.declared.error.Error.{Error}
 use Rattle.amqp_wire.specs.declared.error.Error.TheVariants.{Misplaced}
@@ -19,9 +19,7 @@ use Rattle.amqp_batches.specs.Walk.{IsAtTop}
 use Rattle.amqp_batches.specs.NoSections.{NoSection}
 use Rattle.amqp_batches.proofs.WalkSteps.{peeked_alike}
 use Rattle.amqp_messages.specs.declared.order.Order.{Order}
-use Rattle.amqp_messages.specs.Kinds.{is_in}
 use Rattle.amqp_messages.specs.MessageKinds.{behind_section}
-use Rattle.amqp_messages.proofs.GroupSteps.{eqb_false, other_code}
 use Rattle.amqp_messages.specs.Orders.{further, IsFull}
 use Rattle.amqp_messages.specs.Next.{FindsNext, full, at_end, section, NextFault, not_top, misplaced, not_section}
 
@@ -126,25 +124,3 @@ module _ (o : Order) (left : ℕ) where
           none v x (full f j k) = some f
           none v x (at_end t r j a) = not_ended r
           none v x (section {c = d} t f a l j k) = none_ahead i d a
-
-skip : (b : Bool) (m n : ℕ) → b ≡ false → cond b m n ≡ n
-skip true m n no = absurd (cc)
-skip false m n no = refl
-
-none_left : (b : Bool) → cond b 0 0 ≡ 0
-none_left true = refl
-none_left false = refl
-
-no_body : (c : ℕ) → (c ≡ 0x75 → ⊥) → (c ≡ 0x76 → ⊥) → (c ≡ 0x77 → ⊥) → is_in (0x75 ∷ 0x76 ∷ 0x77 ∷ []) c ≡ false
-no_body c d s v = neither _ _ (eqb_false c 0x75 d) (neither _ _ (eqb_false c 0x76 s) (other_code c 0x77 v))
-  where
-    neither : (x y : Bool) → x ≡ false → y ≡ false → x || y ≡ false
-    neither true y no n = no
-    neither false y no n = n
-
--- no kind comes after that of another section
-pub behind_other : (c : ℕ) → (c ≡ 0x70 → ⊥) → (c ≡ 0x71 → ⊥) → (c ≡ 0x72 → ⊥) → (c ≡ 0x73 → ⊥) → (c ≡ 0x74 → ⊥) → (c ≡ 0x75 → ⊥)
-    → (c ≡ 0x76 → ⊥) → (c ≡ 0x77 → ⊥) → behind_section c ≡ 0
-behind_other c h d m p a x y z =
-    skip _ _ _ (other_code c 0x70 h) ∙ skip _ _ _ (other_code c 0x71 d) ∙ skip _ _ _ (other_code c 0x72 m)
-    ∙ skip _ _ _ (other_code c 0x73 p) ∙ skip _ _ _ (other_code c 0x74 a) ∙ skip _ _ _ (no_body c x y z) ∙ none_left (is_in (0x78 ∷ []) c)

@@ -17,6 +17,5 @@ each_has (suc (suc (suc (suc (suc (suc (suc zero))))))) d h = refl
 each_has (suc (suc (suc (suc (suc (suc (suc (suc zero)))))))) d h = refl
 each_has (suc (suc (suc (suc (suc (suc (suc (suc (suc k))))))))) d h = absurd (omega (arith, h))
 
-pub has_ahead : (S : Type 0) (rest : List ℕ) (c : ℕ) → IsSectionAhead rest c → has (seven S) c ≡ true
-has_ahead S rest c h =
-    All-contains (λ (r : ℕ × List ℕ). has (seven (Unit {0})) r.0 ≡ true) sections (c, h.is.0) each_has h.is.1
+pub has_ahead : (rest : List ℕ) (c : ℕ) → IsSectionAhead rest c → has (seven (Unit {0})) c ≡ true
+has_ahead rest c h = All-contains (λ (r : ℕ × List ℕ). has (seven (Unit {0})) r.0 ≡ true) sections (c, h.is.0) each_has h.is.1

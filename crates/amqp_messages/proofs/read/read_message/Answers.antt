@@ -28,7 +28,7 @@ returns-in_err-read_group-clause-read g c tells =
     (found_as c.args.order _ _ _ c.in-Some.is (c.in_ok-code.ensures.read tells)) in
     refused_at c.from_residual-in_err-read_group.result c.from_residual-in_err-read_group.ensures.1
     (group_refused c.args.order made _ _ _ c.in-Some.code _ _ _ (c.loop-groups.invariant.so_far tells) there
-    (c.in_err-read_group.ensures.read tells (has_ahead _ _ _ there.ahead)))
+    (c.in_err-read_group.ensures.read tells (has_ahead _ _ there.ahead)))
 
 pub returns-in_err-read_group-clause-tries : goal.returns-in_err-read_group-clause-tries
 returns-in_err-read_group-clause-tries g c =
@@ -48,7 +48,7 @@ loop-groups-preserved g c =
           (let there = found_there c.args.order made _ _ c.in-Some.code _
           (found_as c.args.order _ _ _ c.in-Some.is (c.in_ok-code.ensures.read tells)) in
           group_next c.args.order made _ _ (record { left = c.further-left.result; part = fields_in c.read_group.new.self }) _ c.in-Some.code _ _
-          (c.loop-groups.invariant.so_far tells) there c.further-left.ensures (c.in_ok-read_group.ensures.read tells (has_ahead _ _ _ there.ahead)));
+          (c.loop-groups.invariant.so_far tells) there c.further-left.ensures (c.in_ok-read_group.ensures.read tells (has_ahead _ _ there.ahead)));
       passed = passed_then c.args.decoder.now c.next_section.new.decoder c.read_group.new.decoder before c.in_ok-read_group.ensures.tries;
       began = inr (began_later c.args.decoder.now c.next_section.new.decoder c.read_group.new.decoder before c.in_ok-read_group.ensures.tries);
     }

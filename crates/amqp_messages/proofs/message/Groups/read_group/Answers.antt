@@ -1,7 +1,6 @@
 use Rattle.std.proofs.Common.{refl, rules}
-use Rattle.amqp_messages.specs.Messages.{readings_of, seven_apart, fields_in}
-use Rattle.amqp_messages.specs.MessageKinds.{seven}
-use Rattle.amqp_messages.proofs.GroupSteps.{put_code, put_answer, at_body}
+use Rattle.amqp_messages.specs.Messages.{fields_in}
+use Rattle.amqp_messages.proofs.GroupSteps.{put_code, body_answer}
 use Rattle.amqp_messages.proofs.message.Groups.read_group.Goals as goal
 
 pub returns-in-112-clause-read : goal.returns-in-112-clause-read
@@ -36,6 +35,5 @@ returns-in-120-clause-read g c tells among =
 
 pub returns-in_default-clause-read : goal.returns-in_default-clause-read
 returns-in_default-clause-read g c tells among =
-    put_answer (seven _) (readings_of g.B.FromBody.made.group) (seven_apart _) 5 c.args.code (fields_in c.args.self.now) _ _ _ _
-    (at_body _ c.args.code among (search rules) (search rules) (search rules) (search rules) (search rules) (search rules))
-    (refl, (refl, (refl, (refl, (refl, (c.put_body.ensures.read tells, refl))))))
+    body_answer g.B.FromBody.made c.args.code among (search rules) (search rules) (search rules) (search rules) (search rules) (search rules)
+    (fields_in c.args.self.now) _ _ _ _ (refl, (refl, (refl, (refl, (refl, (c.put_body.ensures.read tells, refl))))))
