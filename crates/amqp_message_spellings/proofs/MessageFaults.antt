@@ -71,13 +71,13 @@ module _ {S B : Type 0} (made : Made S B) {group : Spells S} {body : Faults} (l 
       → (length gs < 7) × (((c : ℕ) × IsSectionAhead st.rest c × IsGroupFault S body c st.rest e.error) ⊎ IsNoSection st.rest e.error)
   next_in_any st m e gs free left (in_group {c} a p f) =
       (omega (arith, p, left, left_any ks gs 7), inl (c, a, group_named c st e free f))
-  next_in_any st m e gs free left (misplaced full a p x here) = let none : m.left ≡ 0 = omega (arith, p) in absurd (full none)
+  next_in_any st m e gs free left (misplaced full a p x here) = let ended : m.left ≡ 0 = omega (arith, p) in absurd (full ended)
   next_in_any st m e gs free left (not_section full rest a f) =
       (below m.left full (left ∙ left_any ks gs 7), inr (rest, a, no_section_named st e free f))
     where
       below : (n : ℕ) → (n ≡ 0 → ⊥) → n ≡ 7 - length gs → length gs < 7
-      below zero none same = absurd (none refl)
-      below (suc n) none same = omega (arith, same)
+      below zero some same = absurd (some refl)
+      below (suc n) some same = omega (arith, same)
 
   -- What stands behind the groups that were read.
   stands_behind : (o : Order) {st : State} {part : M} {last : State} (rest : List ℕ)
@@ -98,13 +98,13 @@ module _ {S B : Type 0} (made : Made S B) {group : Spells S} {body : Faults} (l 
       let k = took_groups Any shape (spelled group) (are_read made l) n st blank part last free steps in
       stands_behind Any mid.rest (HasFault made group body e.error) k (alike_rest last mid a)
       (inl (next_in_any mid part e k.groups (also_free last mid k.free a) k.left f))
-  any_fault st e free (not_made n part last steps done none left) =
+  any_fault st e free (not_made n part last steps done unmade left) =
       let k = took_groups Any shape (spelled group) (are_read made l) n st blank part last free steps in
       let few = placed_few ks k.groups 7 k.placed in
       stands_behind Any last.rest (HasFault made group body e.error) k refl (inr (
         few,
         seven_left ks k.groups last.rest few (subst (λ x. (x ≡ 0) ⊎ (last.rest ≡ [])) k.left done),
-        no_body part e.error k.groups k.part none,
+        no_body part e.error k.groups k.part unmade,
       ))
 
   -- How many kinds may come behind the last group is the same by both words.
@@ -130,11 +130,11 @@ module _ {S B : Type 0} (made : Made S B) {group : Spells S} {body : Faults} (l 
         placed_fall ks k.groups 7 k.placed,
         inl (next_in_order mid part e k.groups (also_free last mid k.free a) (k.left ∙ left_written k.groups 7) f),
       )
-  strict_fault st e free (not_made n part last steps done none left) =
+  strict_fault st e free (not_made n part last steps done unmade left) =
       let k = took_groups Written shape (spelled group) (are_read made l) n st blank part last free steps in
       stands_behind Written last.rest (HasStrictFault made group body e.error) k refl (
         placed_fall ks k.groups 7 k.placed,
-        inr (at_end last.rest done, no_body part e.error k.groups k.part none),
+        inr (at_end last.rest done, no_body part e.error k.groups k.part unmade),
       )
 
   pub message_named : IsNamedAs (walk_reading (message_walk Any shape)) (IsMessageFault made group body)

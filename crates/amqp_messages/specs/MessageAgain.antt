@@ -18,13 +18,14 @@ use Rattle.amqp_annotations.specs.AnnotationsType.{annotations_type}
 use Rattle.amqp_map_sections.specs.SimpleMaps.{simple_map_type}
 use Rattle.amqp_message_headers.specs.Tables.{header, properties}
 use Rattle.amqp_batches.specs.Spellings.{Spells}
-use Rattle.amqp_batches.specs.GroupTexts.{IsSound}
+use Rattle.amqp_batches.specs.GroupTexts.{IsSound, widened}
 use Rattle.amqp_batches.specs.WalkReading.{walk_reading}
 use Rattle.amqp_batches.specs.laws.Bound.{begins_without_limits}
 use Rattle.amqp_batches.specs.laws.ReadAs.{IsReadAs}
 use Rattle.amqp_batches.specs.laws.Walk.{no_term}
 use Rattle.amqp_batches.specs.laws.Resuming.{IsRead, start_unlimited}
-use Rattle.amqp_batches.specs.Walk.{not_made}
+use Rattle.amqp_batches.specs.Walk.{Walk, Steps, not_made}
+use Rattle.amqp_batches.proofs.WalkSteps.{SoFar, none_made}
 use Rattle.amqp_bodies.specs.Bodies.{Made}
 use Rattle.amqp_bodies.specs.BodyTexts.{IsBodyText, body_group}
 use Rattle.amqp_messages.specs.declared.order.Order.{Order}
@@ -39,11 +40,12 @@ use Rattle.amqp_messages.specs.MessageKinds.{seven, delivery_annotations, messag
 use Rattle.amqp_messages.specs.MessageKinds.{spelled, fields_of, body_in, IsBodyOf, IsMadeOf}
 use Rattle.amqp_messages.specs.MessageWalk.{message_walk}
 use Rattle.amqp_messages.specs.MessageWriting.{groups_in, message_writing}
-use Rattle.amqp_messages.specs.MessageTexts.{texts}
+use Rattle.amqp_messages.specs.MessageTexts.{texts, body_code}
 use Rattle.amqp_messages.specs.Builders.{with_body}
 use Rattle.amqp_messages.specs.Messages.{readings_of, seven_apart, others_of, without_body, IsUnmade, message_of}
 use Rattle.amqp_messages.specs.laws.KindsReading.{put_same}
-use Rattle.amqp_messages.specs.laws.KindsSpelled.{AreReadAs, are_bound, AreInPlace, OfGroups, groups_are_read, read_groups, few_placed, fall_placed, falls_few}
+use Rattle.amqp_messages.specs.Groups.{Progress}
+use Rattle.amqp_messages.specs.laws.KindsSpelled.{AreReadAs, are_bound, left_by, AreInPlace, OfGroups, groups_are_read, read_groups, few_placed, fall_placed, falls_few}
 use Rattle.amqp_messages.specs.laws.KindsRewriting.{read_are_sound, sound_are_values, row_canons, row_again, row_own, row_large}
 use Rattle.amqp_messages.specs.laws.KindsRewriting.{text_is_groups, groups_are, groups_fall, put_has, groups_were_read, row_without, rest_has}
 use Rattle.amqp_messages.specs.laws.MessageLimits.{message_bound}
@@ -161,17 +163,16 @@ module _ {wa : Writing (List (OwnedKey × Value))} {ws : Writing (List (String G
         read = groups_were_read ks rs (spelled group) reads k.1.groups (take n input) (drop n input) k.1.are;
       }
 
-  body_sound : (b : Option B) (v : B) → IsBodyOf made b v → IfSome b (IsSound (body_group body.group)) → IsSound (body_group body.group) v
-  body_sound None v h k = body.empty_sound v h
-  body_sound (Some t) v h k = subst (IsSound (body_group body.group)) (sym (body.to_body t v h)) k
+  body_sound : (b : Option B) (v : B) → IsBodyOf made b v → IfSome b (IsSound (widened body_code (body_group body.group)))
+      → IsSound (widened body_code (body_group body.group)) v
+  body_sound None v h k = (let e = body.empty_sound v h in record { value = e.value; own = e.own; large = e.large })
+  body_sound (Some t) v h k = subst (IsSound (widened body_code (body_group body.group))) (sym (body.to_body t v h)) k
 
   sound : (v : Message B) → ReadOf v → AllHave ks (are_sound ks rs ts) (groups_in v)
   sound v r =
       let all = subst (AllHave ks (are_sound ks rs ts)) r.made_of.fields (read_are_sound ks rs ts r.fields r.read) in
       let b = body_sound (body_in r.fields) v.body r.made_of.body all.1.1.1.1.1.0 in
-      put_has ks (are_sound ks rs ts) (as_body v.body)
-      (fields_of (body_in r.fields) v)
-      (record { value = b.value; own = b.own; large = b.large }) all
+      put_has ks (are_sound ks rs ts) (as_body v.body) (fields_of (body_in r.fields) v) b all
 
   body_lasts : (b : Option B) (v : B) → IsBodyOf made b v → IfSome b (IsRead made.group) → lasts v ⊎ made.empty v
   body_lasts None v h r = inr h
@@ -245,10 +246,21 @@ module _ {wa : Writing (List (OwnedKey × Value))} {ws : Writing (List (String G
       let k = read_groups o (message_of made) (spelled group) reads groups (start text) 7 (nothing ks) text [] (start_unlimited text)
       (sym (append-nil text)) (in_place ks o groups (groups_fall ks (kinds.again ks rs ts f)))
       (text_is_groups ks rs (spelled group) reads (seven_apart B) ts f (others_values v i) (others_have v) (others_writable v e w)) in
+      let w : Walk (Progress ks) (Message B) = message_walk o (message_of made) in
+      let unmade : IsUnmade made (put_all ks groups (nothing ks)) EmptyBody =
+      subst (λ z. IsUnmade made z EmptyBody) (sym (groups_are ks (kinds.again ks rs ts f))) (refl, refl, none) in
+      let part : Progress ks = record { left = left_by ks o 7 groups; part = put_all ks groups (nothing ks) } in
+      let so_far : SoFar w (start text) part k.last = record {
+        number = k.number;
+        last = k.last;
+        steps = k.steps;
+        here = refl;
+        first = λ z. (subst (λ n. Steps w n (start text) w.blank part k.last) z k.steps).1;
+      } in
       subst (λ b. IsUnreadable (walk_reading (message_walk o (message_of made))) b EmptyBody) (sym (ap row_text (others_text v e)))
       (record {
         left = 0;
-        fault = not_made k.number _ k.last k.steps (inr k.behind_it)
-            (subst (λ z. IsUnmade made z EmptyBody) (sym (groups_are ks (kinds.again ks rs ts f))) (refl, refl, none))
-            (sym (ap length k.behind_it));
+        fault = not_made k.number part k.last k.steps (inr k.behind_it) unmade (sym (ap length k.behind_it));
+        none = λ u n h. none_made w (start text) part k.last k.last EmptyBody so_far refl (inr k.behind_it) unmade u h.after h.read;
+        unspelled = λ one. absurd (no_term one);
       })

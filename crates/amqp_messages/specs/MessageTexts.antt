@@ -5,6 +5,7 @@ use Rattle.std.proofs.lemmas.Bool.{eq-eqb}
 use Rattle.amqp_codec.specs.TermType.{TermType}
 use Rattle.amqp_codec.specs.TermReading.{reading_of}
 use Rattle.amqp_codec.specs.Composite.{composite}
+use Rattle.amqp_codec.specs.Reading.{Reading}
 use Rattle.amqp_codec.specs.Written.{Writing}
 use Rattle.amqp_codec.specs.Agreement.{Agreement, writing_of, agreement}
 use Rattle.amqp_sections.specs.SectionType.{section_writing, section_agreement}
@@ -20,7 +21,6 @@ use Rattle.amqp_message_headers.specs.Tables.{header, properties}
 use Rattle.amqp_batches.specs.Sections.{IsSectionCode, IsSection}
 use Rattle.amqp_batches.specs.SectionGroups.{section_text}
 use Rattle.amqp_batches.specs.GroupTexts.{GroupText, widened}
-use Rattle.amqp_bodies.specs.Bodies.{Made}
 use Rattle.amqp_bodies.specs.BodyRewriting.{IsBodyCode}
 use Rattle.amqp_bodies.specs.BodyTexts.{IsBodyGroup, body_group}
 use Rattle.amqp_messages.specs.Kinds.{is_in}
@@ -82,10 +82,10 @@ body_code c (inr (inl e)) = subst (λ z. is_in (0x75 ∷ 0x76 ∷ 0x77 ∷ []) z
 body_code c (inr (inr e)) = subst (λ z. is_in (0x75 ∷ 0x76 ∷ 0x77 ∷ []) z ≡ true) (sym e) refl
 
 module _ {wa : Writing (List (OwnedKey × Value))} {ws : Writing (List (String Global × SimpleValue))} (a : Agreement annotations_type wa)
-    (s : Agreement simple_map_type ws) {B : Type 0} {made : Made B B} {writing : Writing B} {follows : List ℕ → Type 0} {again : B → B}
-    {kept lasts : B → Type 0} (body : IsBodyGroup made.group writing follows again kept lasts) where
+    (s : Agreement simple_map_type ws) {B : Type 0} {reading : Reading B} {writing : Writing B} {follows : List ℕ → Type 0} {again : B → B}
+    {kept lasts : B → Type 0} (body : IsBodyGroup reading writing follows again kept lasts) where
   -- Of each kind, by how annotations, simple maps and the body are written.
-  abbrev pub texts : Texts (seven B) (readings_of made.group)
+  abbrev pub texts : Texts (seven B) (readings_of reading)
   texts = (
     section 0x70 (record { is_section = header_code; content = _; canon_is = λ v. refl }) (agreement (composite header) refl),
     (
