@@ -69,11 +69,11 @@ pub(crate) fn next_section<R: ByteSource>(
     if full {
         return Ok(None);
     }
-    let ended = decoder.at_end()?;
-    if ended {
-        return Ok(None);
-    }
     let Some(code) = decoder.peek_section()? else {
+        let ended = decoder.at_end()?;
+        if ended {
+            return Ok(None);
+        }
         return Err(no_section(decoder, alloc));
     };
     if order.further(left, code) >= left {
