@@ -91,23 +91,9 @@ module _ (o : Order) (left : ℕ) where
       none_ahead : (c : ℕ) → IsSectionAhead st.rest c → ⊥
       none_ahead c k = let a = p.answer c in let z = sym absent ∙ a.1 k in absurd (cc)
 
-      -- the look at the end was refused
-      pub end_refused : (e : Error) (new : State) → RefusesAt false Ends (Here NotTop) here e new → Refuses st e new
-      end_refused e new q =
-          let s = alike_stays st here alike in
-          let only : IsExcused true e new =
-          elim (q.named (s.error ∙ p.going)) [
-            | inl x ↦ excused_as e new no_memory x
-            | inr x ↦ absurd (x.1.0.0 (s.place ∙ p.place) (s.saved ∙ p.saved) (still_among s ∙ p.among))
-          ] in
-          record { kept = answered_later s.sound q.kept; again = λ d x. (let g = p.going in absurd (cc)); named = λ _. inl only; none = inl only }
-
       module _ (b : Bool) (mid : State) (h : Ends here b mid) where
         alike_mid : AreAlike st mid
         alike_mid = alike_trans st here mid alike (ends_alike here b mid h)
-
-        pub ended : b ≡ true → FindsNext o left st None mid
-        ended i = let a = h.answer in at_end top (sym (alike_rest st here alike) ∙ a.0 i) refl alike_mid
 
         -- none comes next
         pub not_section_refused : (e : Error) (new : State) → b ≡ false → RefusesAt true (λ st (none : Unit {0}) b. ⊥) NoSection mid e new
