@@ -35,9 +35,19 @@ fn some_in_type<T: Serialize>(section: &Option<T>)
 /// Writes the sections in the standard's order: header, delivery annotations, message annotations, properties, application properties,
 /// body, footer.
 impl<B: SerializableBody> Serialize for Message<B> {
-    ghost writing = { message_writing (⟦<Header as Serialize>⟧.writing, (⟦<DeliveryAnnotations as Serialize>⟧.writing,
-        (⟦<MessageAnnotations as Serialize>⟧.writing, (⟦<Properties as Serialize>⟧.writing,
-        (⟦<ApplicationProperties as Serialize>⟧.writing, (B.writing, (⟦<Footer as Serialize>⟧.writing, tt))))))) };
+    ghost writing = { message_writing (
+      ⟦<Header as Serialize>⟧.writing,
+      (
+        ⟦<DeliveryAnnotations as Serialize>⟧.writing,
+        (
+          ⟦<MessageAnnotations as Serialize>⟧.writing,
+          (
+            ⟦<Properties as Serialize>⟧.writing,
+            (⟦<ApplicationProperties as Serialize>⟧.writing, (B.writing, (⟦<Footer as Serialize>⟧.writing, tt))),
+          ),
+        ),
+      ),
+    ) };
 
     fn serialize<P: Pass>(&self, encoder: &mut Encoder<P>) -> Result<(), Error> {
         write_some(&self.header, encoder)?;

@@ -41,7 +41,6 @@ not_in ks (d ∷ ds) c a i h = by (eqb_or c d (is_in ds c) (eqb c d) refl i) (λ
     by (inl e) others = let n : has ks c ≡ false = subst (λ x. has ks x ≡ false) (sym e) a.0 in absurd (cc)
     by (inr j) others = others j
 
-
 -- what is read has the code of its kind
 pub reads_has : (js : Kinds) (rs : Readings js) (c : ℕ) (st : State) (g : Group js) (b : State) → Reads js rs c st g b → has js c ≡ true
 reads_has none rs c st g b h = absurd h
