@@ -109,7 +109,7 @@ void *__wrap_malloc(size_t len) { return ++allocations == refused ? NULL : __rea
 
 void *__wrap_realloc(void *at, size_t len) { return ++allocations == refused ? NULL : __real_realloc(at, len); }
 
-/* A block of this program's own, which isn't counted. */
+/* A block that isn't the library's, and so isn't counted. */
 static uint8_t *own_block(size_t len) { return __real_malloc(len); }
 
 #else
@@ -655,7 +655,7 @@ static void read_seeds(void) {
         if (len < HEAD || len > MOST)
             continue;
         seeds = realloc(seeds, (seed_count + 1) * sizeof *seeds);
-        uint8_t *bytes = malloc(len);
+        uint8_t *bytes = own_block(len);
         if (seeds == NULL || bytes == NULL)
             exit(2);
         for (size_t i = 0; i < len; i++)
@@ -802,7 +802,7 @@ static int run_random(uint64_t seed, uint64_t from, uint64_t to, const char *pat
         done->number = number;
         done->len = len;
         alarm(SECONDS);
-        uint8_t *input = malloc(len);
+        uint8_t *input = own_block(len);
         if (input == NULL)
             return 2;
         memcpy(input, done->input, len);
@@ -828,7 +828,7 @@ static int run_alone(const char *path) {
         fprintf(stderr, "%s: an input has %d to %d bytes\n", path, HEAD, LARGEST - MARGIN);
         return 2;
     }
-    uint8_t *input = malloc(len);
+    uint8_t *input = own_block(len);
     if (input == NULL)
         return 2;
     memcpy(input, own.input, len);
