@@ -179,7 +179,7 @@ module _ {M V : Type 0} (w : Walk M V) where
       }
 
   -- what was read makes no value
-  none_made : (st : State) (m : M) (mid here : State) (e : Error) → SoFar w st m mid → AreAlike mid here → w.done m here.rest
+  pub none_made : (st : State) (m : M) (mid here : State) (e : Error) → SoFar w st m mid → AreAlike mid here → w.done m here.rest
       → w.unfinished m e → NoneStands (Walked w) st
   none_made st m mid here e h a d f v b k =
       let g = goes_on w h.number k.number st w.blank w.blank m k.part h.last k.last w.blank_alike h.steps k.steps k.done in

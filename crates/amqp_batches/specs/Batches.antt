@@ -91,7 +91,6 @@ module _ {T : Type 0} (c : ℕ) {u : TermType T} {w : Writing T} (s : IsSection 
     text_again = λ v i f.
         ap (λ vs. row_text (flat_map w.canons vs)) (again_each u v) ∙ all_texts_again c r bound w s (rewrites a) (sections_in v) i f;
     value = λ input v n h. all_values c r bound w s (rewrites a) (sections_in v) (was_read input v n h);
-    lasting = λ input v n h. tt;
     own = λ input v n h _.
         subst (λ vs. AllZip r.same vs (sections_in v)) (sym (again_each u v))
         (all_own c r bound w s (rewrites a) (sections_in v) (was_read input v n h));

@@ -4,7 +4,7 @@ use Rattle.amqp_wire.specs.declared.error.Error.{Error}
 use Rattle.amqp_wire.specs.declared.error.Error.TheVariants.{TooLarge}
 use Rattle.amqp_lookahead.specs.Sections.{IsSectionAhead}
 use Rattle.amqp_encoder.specs.Passes.{row_text}
-use Rattle.amqp_codec.specs.Reading.{Reading}
+use Rattle.amqp_codec.specs.Reading.{Reading, BeginsWith}
 use Rattle.amqp_codec.specs.Rewriting.{Rewriting}
 use Rattle.amqp_codec.specs.Written.{AreUnwritable, Writing}
 use Rattle.amqp_batches.specs.Bounds.{IsBoundByLimits}
@@ -21,22 +21,22 @@ pub record GroupText {G : Type 0} (reading : Reading G) (is_code : ℕ → Type 
   pub is_least : Bool
   pub bound : IsBoundByLimits reading
   pub rewriting : Rewriting reading writing.canons writing.is_value follows again kept lasts is_least
+  -- that of what was read is
+  pub lasting : (input : List ℕ) (g : G) (n : ℕ) → BeginsWith reading input g n → lasts g
   pub begins : (g : G) → writing.is_value g → lasts g → (more : List ℕ)
       → (c : ℕ) × is_code c × IsSectionAhead (row_text (writing.canons g) ++ more) c
   pub ends : (more : List ℕ) → ((c : ℕ) → is_code c → IsSectionAhead more c → ⊥) → follows more
 
--- A group that was read, or takes the place of one that isn't there: it is a value, its text is read, as itself where that is kept, and
+-- A group that was read, or takes the place of one that isn't there: it is a value, and what its text is read as where that is kept, and
 -- only its size refuses it.
 pub record IsSound {G : Type 0} {reading : Reading G} {is_code : ℕ → Type 0} (t : GroupText reading is_code) (g : G) : Type 0 where
   pub value : t.writing.is_value g
-  pub lasting : t.lasts g
   pub own : t.kept g → reading.same (t.again g) g
   pub large : (e : Error) → AreUnwritable (t.writing.canons g) e → e ≡ TooLarge
 
 pub read_sound : {G : Type 0} {r : Reading G} {is_code : ℕ → Type 0} (t : GroupText r is_code) (g : G) → IsRead r g → IsSound t g
 read_sound t g h = record {
   value = t.rewriting.value h.input g h.number h.front;
-  lasting = t.rewriting.lasting h.input g h.number h.front;
   own = t.rewriting.own h.input g h.number h.front;
   large = λ e. t.rewriting.large h.input g h.number e h.front;
 }
@@ -52,6 +52,7 @@ widened f t = record {
   is_least = t.is_least;
   bound = t.bound;
   rewriting = t.rewriting;
+  lasting = t.lasting;
   begins = λ g i l more. (let b = t.begins g i l more in (b.0, f b.0 b.1, b.2));
   ends = λ more none. t.ends more (λ c p. none c (f c p));
 }

@@ -43,6 +43,7 @@ section_text c {u} {w} s a = record {
   is_least = u.is_least;
   bound = term_bound u;
   rewriting = rewrites a;
+  lasting = λ input v n h. tt;
   begins = λ v i l more. (c, refl, begins_as_section c w s v more);
   ends = λ more f. tt;
 }
@@ -120,7 +121,7 @@ module _ {T : Type 0} (c : ℕ) {u : TermType T} {w : Writing T} (s : IsSection 
       omega (arith, grows n mid zs ys b h, ap length k.grows, length-append xs (k.item ∷ []))
 
   -- what was read where a section came next isn't empty
-  some_read : (st : State) (vs : List T) (b : State) → IsSectionAhead st.rest c → Walked (run_walk c r) st vs b → vs ≡ [] → ⊥
+  pub some_read : (st : State) (vs : List T) (b : State) → IsSectionAhead st.rest c → Walked (run_walk c r) st vs b → vs ≡ [] → ⊥
   some_read st vs b ahead h e = by_steps h.number h.steps
     where
       by_steps : (n : ℕ) → Steps (run_walk c r) n st [] h.part h.last → ⊥
@@ -155,7 +156,6 @@ module _ {T : Type 0} (c : ℕ) {u : TermType T} {w : Writing T} (s : IsSection 
             record { after = k.after; read = (begins_so (sections_in v) l more, k.read); left = k.left });
         text_again = x.text_again;
         value = λ input v n h. x.value input v n (as_batch input v n h);
-        lasting = λ input v n h. some_read _ (sections_in v) h.after h.read.0 h.read.1;
         own = λ input v n h. x.own input v n (as_batch input v n h);
         large = λ input v n e h. x.large input v n e (as_batch input v n h);
         bounded = begins_without_limits group (group_bound c u);
@@ -173,6 +173,7 @@ module _ {T : Type 0} (c : ℕ) {u : TermType T} {w : Writing T} (s : IsSection 
     is_least = false;
     bound = group_bound c u;
     rewriting = run_rewrites;
+    lasting = λ input b n h. some_read _ (sections_in b) h.after h.read.0 h.read.1;
     begins = λ b i l more. (c, refl, begins_so (sections_in b) l more);
     ends = λ more f. f c refl;
   }

@@ -76,10 +76,6 @@ module _ {T : Type 0} (rv : Reading (AmqpValue T)) (rd : Reading (TransparentVec
         → BeginsWith r (row_text null_section ++ more) again (length (row_text null_section))
     pub text_again : row_text (w.canons again) ≡ row_text null_section
 
-  -- it isn't, where null is no value
-  abbrev pub unread : EmptyText
-  unread = record { lasts = ⊥; again = Empty; reads_again = λ l. absurd l; text_again = refl }
-
   module _ (empty : EmptyText) where
     abbrev pub body_again : Body T → Body T
     body_again = each_again tv.again td.again ts.again empty.again
@@ -145,12 +141,6 @@ module _ {T : Type 0} (rv : Reading (AmqpValue T)) (rd : Reading (TransparentVec
     is_value input (Sequence v) n h = ts.rewriting.value input v n (sequence_read input v n h)
     is_value input Empty n h = absurd h.read
 
-    lasting : (input : List ℕ) (v : Body T) (n : ℕ) → BeginsWith r input v n → DoesBodyLast v
-    lasting input (Value v) n h = tv.rewriting.lasting input v n (value_read input v n h)
-    lasting input (Data v) n h = td.rewriting.lasting input v n (data_read input v n h)
-    lasting input (Sequence v) n h = ts.rewriting.lasting input v n (sequence_read input v n h)
-    lasting input Empty n h = absurd h.read
-
     own : (input : List ℕ) (v : Body T) (n : ℕ) → BeginsWith r input v n → IsBodyKept v → SameBody rv rd rs (body_again v) v
     own input (Value v) n h k = (tv.rewriting.own input v n (value_read input v n h) k, tt, tt)
     own input (Data v) n h k = (tt, td.rewriting.own input v n (data_read input v n h) k, tt)
@@ -170,12 +160,17 @@ module _ {T : Type 0} (rv : Reading (AmqpValue T)) (rd : Reading (TransparentVec
       reads_again = reads_again;
       text_again = text_again;
       value = is_value;
-      lasting = lasting;
       own = own;
       large = large;
       bounded = begins_without_limits r (body_bound rv rd rs tv.bound td.bound ts.bound);
       least = λ l. absurd (no_term l);
     }
+
+    pub lasting : (input : List ℕ) (v : Body T) (n : ℕ) → BeginsWith r input v n → DoesBodyLast v
+    lasting input (Value v) n h = tv.lasting input v n (value_read input v n h)
+    lasting input (Data v) n h = td.lasting input v n (data_read input v n h)
+    lasting input (Sequence v) n h = ts.lasting input v n (sequence_read input v n h)
+    lasting input Empty n h = absurd h.read
 
     -- The text begins as a section of the body's kind.
     pub begins : (v : Body T) → w.is_value v → DoesBodyLast v → (more : List ℕ)
@@ -196,6 +191,7 @@ module _ {T : Type 0} (rv : Reading (AmqpValue T)) (rd : Reading (TransparentVec
       is_least = false;
       bound = body_bound rv rd rs tv.bound td.bound ts.bound;
       rewriting = body_rewrites;
+      lasting = lasting;
       begins = begins;
       ends = λ more f. f;
     }

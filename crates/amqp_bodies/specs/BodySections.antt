@@ -1,13 +1,10 @@
 -- Bodies of any kind, by the type of their values (Part 3, sections 3.2.6 to 3.2.8).
-use Rattle.std.proofs.Common.{◌≡◌, Bool, true, false, [], refl, ap, arith}
-use Rattle.amqp_model.specs.FieldType.{normal}
+use Rattle.std.proofs.Common.{◌≡◌, Bool, true, false, refl, ap, arith}
 use Rattle.amqp_codec.specs.TermType.{TermType}
 use Rattle.amqp_codec.specs.TermReading.{reading_of}
 use Rattle.amqp_codec.specs.Wrappers.{Holds}
 use Rattle.amqp_codec.specs.Written.{Writing}
-use Rattle.amqp_codec.specs.Agreement.{Agreement}
 use Rattle.amqp_codec.specs.Reading.{Reading}
-use Rattle.amqp_codec.specs.Rewriting.{Rewriting}
 use Rattle.amqp_sections.specs.SectionType.{section_of, section_writing}
 use Rattle.amqp_sections.specs.Sections.{in_value, value_naming}
 use Rattle.amqp_sections.specs.declared.data.Data.{Data as DataSection}
@@ -16,14 +13,13 @@ use Rattle.amqp_sections.specs.declared.amqp_value.AmqpValue.{AmqpValue}
 use Rattle.amqp_batches.specs.Bounds.{IsBoundByLimits}
 use Rattle.amqp_batches.specs.laws.Bound.{term_bound}
 use Rattle.amqp_batches.specs.Sections.{IsSection}
-use Rattle.amqp_batches.specs.Batches.{sections_in, batch_reading, batch_writing, batch_again}
-use Rattle.amqp_batches.specs.SectionGroups.{group_bound, section_text, batch_text}
+use Rattle.amqp_batches.specs.Batches.{batch_reading}
+use Rattle.amqp_batches.specs.SectionGroups.{group_bound}
 use Rattle.amqp_bodies.specs.declared.body.Body.{Body}
 use Rattle.amqp_bodies.specs.declared.body.Body.TheVariants.{Empty}
 use Rattle.amqp_bodies.specs.Bodies.{Empties, Made, held_in, itself_or_empty}
 use Rattle.amqp_bodies.specs.BodyReading.{body_reading, body_bound}
-use Rattle.amqp_bodies.specs.BodyWriting.{body_writing}
-use Rattle.amqp_bodies.specs.BodyRewriting.{NoBodyFollows, null_code, each_again, IsEach, unread, body_rewrites}
+use Rattle.amqp_bodies.specs.BodyRewriting.{null_code, IsEach}
 
 abbrev pub is_empty : {T : Type 0} → Body T → Bool
 is_empty Empty = true
@@ -32,32 +28,9 @@ is_empty _ = false
 pub value_section : {V T : Type 0} (h : Holds V T) (w : Writing T) → IsSection 0x77 (section_writing h value_naming w)
 value_section h w = record { is_section = null_code; content = _; canon_is = λ v. refl }
 
--- Its text is read: it is there, and no batch is empty.
-abbrev pub IsReadAsBody : {T : Type 0} → Body T → Type 0
-IsReadAsBody = IsEach (λ _. Unit {0}) (λ b. sections_in b ≡ [] → ⊥) (λ b. sections_in b ≡ [] → ⊥) ⊥
-
+-- It is there.
 abbrev pub IsSome : {T : Type 0} → Body T → Type 0
 IsSome = IsEach (λ _. Unit {0}) (λ _. Unit {0}) (λ _. Unit {0}) ⊥
-
-module _ {T : Type 0} (uv : TermType (AmqpValue T)) (ud : TermType DataSection) (us : TermType (AmqpSequence T)) where
-  -- What its text is read as.
-  abbrev pub again_as_body : Body T → Body T
-  again_as_body = each_again (normal uv.norm) (batch_again ud) (batch_again us) Empty
-
-  module _ {wv : Writing (AmqpValue T)} {wd : Writing DataSection} {ws : Writing (AmqpSequence T)} (sv : IsSection 0x77 wv)
-      (sd : IsSection 0x75 wd) (ss : IsSection 0x76 ws) (av : Agreement uv wv) (ad : Agreement ud wd) (as_ : Agreement us ws) where
-    pub any_body_rewrites :
-        Rewriting (body_reading (reading_of uv) (batch_reading 0x75 (reading_of ud)) (batch_reading 0x76 (reading_of us)))
-        (body_writing wv (batch_writing wd) (batch_writing ws)).canons (body_writing wv (batch_writing wd) (batch_writing ws)).is_value
-        NoBodyFollows again_as_body IsSome IsReadAsBody false
-    any_body_rewrites =
-        let tv = section_text 0x77 sv av in
-        let td = batch_text 0x75 sd ad in
-        let ts = batch_text 0x76 ss as_ in
-        let rv = reading_of uv in
-        let rd = batch_reading 0x75 (reading_of ud) in
-        let rs = batch_reading 0x76 (reading_of us) in
-        body_rewrites rv rd rs tv td ts (unread rv rd rs tv td ts)
 
 pub any_body_bound : {T : Type 0} (uv : TermType (AmqpValue T)) (ud : TermType DataSection) (us : TermType (AmqpSequence T))
     → IsBoundByLimits (body_reading (reading_of uv) (batch_reading 0x75 (reading_of ud)) (batch_reading 0x76 (reading_of us)))

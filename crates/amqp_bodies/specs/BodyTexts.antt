@@ -6,7 +6,7 @@ use Rattle.amqp_model.specs.FieldType.{normal}
 use Rattle.amqp_codec.specs.TermType.{TermType}
 use Rattle.amqp_codec.specs.TermReading.{reading_of}
 use Rattle.amqp_codec.specs.Agreement.{Agreement}
-use Rattle.amqp_codec.specs.Reading.{Reading}
+use Rattle.amqp_codec.specs.Reading.{Reading, BeginsWith}
 use Rattle.amqp_codec.specs.Rewriting.{Rewriting}
 use Rattle.amqp_codec.specs.Written.{Writing}
 use Rattle.amqp_batches.specs.Bounds.{IsBoundByLimits}
@@ -20,11 +20,13 @@ use Rattle.amqp_bodies.specs.Bodies.{Made, Empties, itself, section_made, AreLin
 use Rattle.amqp_bodies.specs.SeenReading.{seen_reading, seen_bound, seen_text}
 use Rattle.amqp_bodies.specs.BodyRewriting.{IsBodyCode}
 
--- The text of a body is read again.
+-- The text of a body that lasts is read again.
 pub record IsBodyGroup {B : Type 0} (reading : Reading B) (writing : Writing B) (follows : List ℕ → Type 0) (again : B → B)
     (kept lasts : B → Type 0) : Type 0 where
   pub bound : IsBoundByLimits reading
   pub rewriting : Rewriting reading writing.canons writing.is_value follows again kept lasts false
+  -- that of what was read is
+  pub lasting : (input : List ℕ) (v : B) (n : ℕ) → BeginsWith reading input v n → lasts v
   -- it begins as one of a body's sections, and ends where none follows
   pub begins : (v : B) → writing.is_value v → lasts v → (more : List ℕ)
       → (c : ℕ) × IsBodyCode c × IsSectionAhead (row_text (writing.canons v) ++ more) c
@@ -42,11 +44,12 @@ body_group {writing = writing} {follows} {again} {kept} {lasts} g = record {
   is_least = false;
   bound = g.bound;
   rewriting = g.rewriting;
+  lasting = g.lasting;
   begins = g.begins;
   ends = g.ends;
 }
 
--- A value is its own body, or takes the place of one that isn't there, and its text is read again.
+-- A value is its own body, or takes the place of one that isn't there, and its text is read again if it lasts.
 pub record IsBodyText {B : Type 0} (made : Made B B) (writing : Writing B) (follows : List ℕ → Type 0) (again : B → B)
     (kept lasts : B → Type 0) : Type 0 where
   pub group : IsBodyGroup made.group writing follows again kept lasts
@@ -65,7 +68,6 @@ forget_least x = record {
   reads_again = x.reads_again;
   text_again = x.text_again;
   value = x.value;
-  lasting = x.lasting;
   own = x.own;
   large = x.large;
   bounded = x.bounded;
@@ -74,7 +76,8 @@ forget_least x = record {
 
 pub group_is_body : {B : Type 0} {reading : Reading B} (t : GroupText reading IsBodyCode)
     → IsBodyGroup reading t.writing t.follows t.again t.kept t.lasts
-group_is_body t = record { bound = t.bound; rewriting = forget_least t.rewriting; begins = t.begins; ends = t.ends }
+group_is_body t =
+    record { bound = t.bound; rewriting = forget_least t.rewriting; lasting = t.lasting; begins = t.begins; ends = t.ends }
 
 -- What is read as itself is written as itself.
 pub itself_text : {B : Type 0} (r : Reading B) (bound : IsBoundByLimits r) (t : GroupText r IsBodyCode)
@@ -94,7 +97,7 @@ linked_same r empty one v w (alike h) = h
 linked_same r empty one v w (both_empty h k) = one v w h k
 linked_same r empty one v w (by_way_of x h k) = r.same_trans v x w (linked_same r empty one v x h) (linked_same r empty one x w k)
 
--- So is what takes the place of a body, if it is read again and there is one such value at most.
+-- So is what takes the place of a body, if there is one such value at most.
 pub itself_or_empty_text : {B : Type 0} (r : Reading B) (bound : IsBoundByLimits r) (e : Empties B) (t : GroupText r IsBodyCode)
     → ((v : B) → e.is v → IsSound (body_group (group_is_body t)) v) → ((v w : B) → e.is v → e.is w → r.same v w)
     → IsBodyText (itself_or_empty r bound e) t.writing t.follows t.again t.kept t.lasts

@@ -1,5 +1,5 @@
--- Null as the value of a body, which takes the place of one that isn't there (Part 3, section 3.2.8).
-use Rattle.std.proofs.Common.{ℕ, List, [], ◌∷◌, ◌++◌, refl, arith, inr}
+-- The value of a body that takes the place of one that isn't there, as a null does (Part 3, section 3.2.8).
+use Rattle.std.proofs.Common.{ℕ, List, [], ◌∷◌, ◌++◌, length, refl, arith, inr}
 use Rattle.amqp_model.specs.Term.{null, leaf, described, code}
 use Rattle.amqp_model.specs.Spelling.{IsSpelling, Names}
 use Rattle.amqp_model.specs.Standing.{whole}
@@ -19,7 +19,7 @@ use Rattle.amqp_batches.specs.laws.Bound.{term_bound}
 use Rattle.amqp_batches.specs.laws.Resuming.{IsRead}
 use Rattle.amqp_batches.specs.GroupTexts.{GroupText, read_sound, widened}
 use Rattle.amqp_batches.specs.SectionGroups.{section_text}
-use Rattle.amqp_bodies.specs.Bodies.{Empties}
+use Rattle.amqp_bodies.specs.Bodies.{Empties, no_value}
 use Rattle.amqp_bodies.specs.BodyRewriting.{IsBodyCode, null_code}
 use Rattle.amqp_bodies.specs.BodySections.{value_section, value_made}
 use Rattle.amqp_bodies.specs.BodyTexts.{IsBodyText, body_group, group_is_body, itself_or_empty_text}
@@ -58,14 +58,28 @@ module _ {T : Type 0} (u : TermType T) where
   pub null_begins : (v : AmqpValue T) (more : List ℕ) → IsNull u v.0 → BeginsWith (reading_of values) (null_bytes ++ more) v 4
   null_begins v more h = spelled_read values null_bytes more v (null_spells v h)
 
-  pub null_read : (v : AmqpValue T) → IsNull u v.0 → IsRead (reading_of values) v
-  null_read v h = record { input = null_bytes; number = 4; front = null_begins v [] h }
-
-  pub one_null : (v w : AmqpValue T) → IsNull u v.0 → IsNull u w.0 → values.same v w
+  one_null : (v w : AmqpValue T) → IsNull u v.0 → IsNull u w.0 → values.same v w
   one_null v w h k = (read_one greatest (reading_of values) null_bytes v w 4 4 (null_begins v [] h) (null_begins w [] k)).0
 
--- One value, which is a null if it takes the place of a body that isn't there.
-pub value_is_text : {T : Type 0} {u : TermType T} {w : Writing T} → Agreement u w → (e : Empties T) → ((v : T) → e.is v → IsNull u v)
+  -- The values of some that take the place of a body that isn't there: bytes spell the section with each, and all are the same.
+  pub record AreSpelled (e : Empties T) : Type 0 where
+    pub spelled : (v : T) → e.is v → (b : List ℕ) × IsSpelled values b (record { 0 = v })
+    pub one : (v w : T) → e.is v → e.is w → u.same v w
+
+  pub none_spelled : AreSpelled no_value
+  none_spelled = record { spelled = λ v h. absurd h; one = λ v w h. absurd h }
+
+  pub nulls_spelled : (e : Empties T) → ((v : T) → e.is v → IsNull u v) → AreSpelled e
+  nulls_spelled e is = record {
+    spelled = λ v h. (null_bytes, null_spells (record { 0 = v }) (is v h));
+    one = λ v w h k. (one_null (record { 0 = v }) (record { 0 = w }) (is v h) (is w k)).1;
+  }
+
+  spelled_is_read : (v : AmqpValue T) → (b : List ℕ) × IsSpelled values b v → IsRead (reading_of values) v
+  spelled_is_read v (b, s) = record { input = b ++ []; number = length b; front = spelled_read values b [] v s }
+
+-- One value, which bytes spell if it takes the place of a body that isn't there.
+pub value_is_text : {T : Type 0} {u : TermType T} {w : Writing T} → Agreement u w → (e : Empties T) → AreSpelled u e
     → IsBodyText (value_made u e) (section_writing in_value value_naming w) (λ _. Unit {0})
     (normal (section_of in_value value_naming u).norm) (λ _. Unit {0}) (λ _. Unit {0})
 value_is_text {u = u} {w} a e is =
@@ -73,5 +87,5 @@ value_is_text {u = u} {w} a e is =
     widened (λ k i. inr (inr i)) (section_text 0x77 (value_section in_value w) (section_agreement in_value value_naming a)) in
     itself_or_empty_text (reading_of (values u)) (term_bound (values u))
     (record { is = λ v. e.is v.0; test = λ v. e.test v.0; tested = λ v. e.tested v.0 }) t
-    (λ v h. read_sound (body_group (group_is_body t)) v (null_read u v (is v.0 h)))
-    (λ v x h k. one_null u v x (is v.0 h) (is x.0 k))
+    (λ v h. read_sound (body_group (group_is_body t)) v (spelled_is_read u v (is.spelled v.0 h)))
+    (λ v x h k. (refl, is.one v.0 x.0 h k))

@@ -119,7 +119,7 @@ module _ {V : Type 0} (r : Reading V) where
       let f = read_behind (start_within limits input) k.seen (start_within limits input) v h.after k.alike refl k.read in
       record { after = looking f.0 h.after; read = f.1; left = h.left }
 
-  unseen : (input : List ℕ) (v : V) (n : ℕ) → BeginsWith seen_reading input v n → BeginsWith r input v n
+  pub unseen : (input : List ℕ) (v : V) (n : ℕ) → BeginsWith seen_reading input v n → BeginsWith r input v n
   unseen = unseen_within greatest
 
   pub seen_rewrites : {canons : V → List Term} {is_value : V → Type 0} {follows : List ℕ → Type 0} {again : V → V}
@@ -133,7 +133,6 @@ module _ {V : Type 0} (r : Reading V) where
         record { after = k.after; read = record { seen = _; alike = refl; read = k.read }; left = k.left });
     text_again = x.text_again;
     value = λ input v n h. x.value input v n (unseen input v n h);
-    lasting = λ input v n h. x.lasting input v n (unseen input v n h);
     own = λ input v n h. x.own input v n (unseen input v n h);
     large = λ input v n e h. x.large input v n e (unseen input v n h);
     bounded = λ limits input v n h.
@@ -153,6 +152,7 @@ module _ {V : Type 0} (r : Reading V) where
     is_least = t.is_least;
     bound = seen_bound t.bound;
     rewriting = seen_rewrites t.rewriting;
+    lasting = λ input v n h. t.lasting input v n (unseen input v n h);
     begins = t.begins;
     ends = t.ends;
   }

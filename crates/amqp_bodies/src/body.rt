@@ -4,25 +4,23 @@ ghost use Rattle.amqp_codec.specs.Agreement.{agreement, writing_of};
 ghost use Rattle.amqp_codec.specs.VecType.{vec_of, vec_agreement};
 ghost use Rattle.amqp_primitives.specs.Types.{binary_type};
 ghost use Rattle.amqp_sections.specs.SectionType.{section_of, section_agreement};
-ghost use Rattle.amqp_sections.specs.Sections.{data_naming, in_data, sequence_naming, in_sequence, value_naming, in_value};
+ghost use Rattle.amqp_sections.specs.Sections.{data_naming, in_data, sequence_naming, in_sequence};
 ghost use Rattle.amqp_batches.specs.RepeatedSections.{data_section, sequence_section};
 ghost use Rattle.amqp_bodies.specs.ReadsAs.{reads_itself};
 ghost use Rattle.amqp_bodies.specs.BodyRewriting.{NoBodyFollows};
-ghost use Rattle.amqp_bodies.specs.BodySections.{again_as_body, IsReadAsBody, IsSome, value_section, any_body_rewrites};
-ghost use Rattle.amqp_bodies.specs.BodySections.{empty_body, body_made, any_body_bound};
+ghost use Rattle.amqp_bodies.specs.BodySections.{IsSome, empty_body, body_made, any_body_bound};
 ghost use Rattle.amqp_codec.specs.TermReading.{reading_of};
 ghost use Rattle.amqp_bodies.specs.BodyReading.{body_reading};
-ghost use Rattle.amqp_bodies.specs.SeenReading.{seen_reading, seen_rewrites, seen_bound};
+ghost use Rattle.amqp_bodies.specs.SeenReading.{seen_reading, seen_bound};
 ghost use Rattle.amqp_bodies.specs.BodyWriting.{body_writing};
 ghost use Rattle.amqp_bodies.specs.SpelledBodies.{IsBody};
 ghost use Rattle.amqp_bodies.specs.SpelledFaults.{IsBodyFault};
 ghost use Rattle.amqp_bodies.specs.SpelledReading.{any_body_is_read};
 ghost use Rattle.amqp_bodies.specs.NamedFaults.{any_body_named};
-ghost use Rattle.amqp_bodies.specs.EmptyBodies.{again_or_null, HasNoEmptyBatch, body_is_text};
+ghost use Rattle.amqp_bodies.specs.EmptyBodies.{again_as_body, IsReadAsBody, IsNullKnown, null_body, any_body_rewrites, body_is_text};
 
 use crate::traits::{
-    BodySection, CanonicalBody, DeserializableBody, FromBody, FromEmptyBody, NullBody,
-    SerializableBody,
+    BodySection, CanonicalBody, DeserializableBody, FromBody, FromEmptyBody, SerializableBody,
 };
 use amqp_batches::{Batch, no_section};
 use amqp_codec::{Canonical, Deserialize, DeserializeTerm, Serialize, SerializeTerm};
@@ -96,22 +94,22 @@ impl<T: DeserializeTerm> Deserialize for Body<T> {
     }
 }
 
+/// A body that is absent is read again as a null, where the type of the values tells what a null means.
 impl<T: DeserializeTerm> Canonical for Body<T> {
     ghost follows = { NoBodyFollows };
 
-    ghost again = { again_as_body (section_of in_value value_naming T.term) ⟦<Data as DeserializeTerm>⟧.term
-        (section_of in_sequence sequence_naming (vec_of T.term)) };
+    ghost again = { again_as_body T.term ⟦<Data as DeserializeTerm>⟧.term (section_of in_sequence sequence_naming (vec_of T.term))
+        (null_body T.writing T.meant_by_null) };
 
     ghost kept = { IsSome };
 
-    ghost lasts = { IsReadAsBody };
+    ghost lasts = { IsReadAsBody (IsNullKnown T.term T.writing T.meant_by_null) };
 
     ghost is_least = { false };
 
-    ghost rewrites = { seen_rewrites _ (any_body_rewrites _ _ _ (value_section in_value T.writing)
-        (data_section in_data (writing_of binary_type refl)) (sequence_section in_sequence ⟦<Vec<T> as Serialize>⟧.writing)
-        (section_agreement in_value value_naming T.agreement) (section_agreement in_data data_naming (agreement binary_type refl))
-        (section_agreement in_sequence sequence_naming (vec_agreement T.agreement))) };
+    ghost rewrites = { any_body_rewrites T.agreement (data_section in_data (writing_of binary_type refl))
+        (section_agreement in_data data_naming (agreement binary_type refl)) (sequence_section in_sequence ⟦<Vec<T> as Serialize>⟧.writing)
+        (section_agreement in_sequence sequence_naming (vec_agreement T.agreement)) T.meant_by_null };
 }
 
 impl<T> BodySection for Body<T> {}
@@ -163,18 +161,16 @@ impl<T: DeserializeTerm> FromBody for Body<T> {
     ghost is_empty = { λ v h. h };
 }
 
-/// A body that is absent is read again as a null.
-impl<T: NullBody> CanonicalBody for Body<T> {
-    ghost follows = { NoBodyFollows };
+impl<T: DeserializeTerm> CanonicalBody for Body<T> {
+    ghost follows = { ⟦<Body<T> as Canonical>⟧.follows };
 
-    ghost again = { again_or_null (section_of in_value value_naming T.term) ⟦<Data as DeserializeTerm>⟧.term
-        (section_of in_sequence sequence_naming (vec_of T.term)) T.nothing };
+    ghost again = { ⟦<Body<T> as Canonical>⟧.again };
 
-    ghost kept = { IsSome };
+    ghost kept = { ⟦<Body<T> as Canonical>⟧.kept };
 
-    ghost lasts = { HasNoEmptyBatch };
+    ghost lasts = { ⟦<Body<T> as Canonical>⟧.lasts };
 
     ghost is_text = { body_is_text T.agreement (data_section in_data (writing_of binary_type refl))
         (section_agreement in_data data_naming (agreement binary_type refl)) (sequence_section in_sequence ⟦<Vec<T> as Serialize>⟧.writing)
-        (section_agreement in_sequence sequence_naming (vec_agreement T.agreement)) T.nothing T.nothing_is_null T.nothing_is_written };
+        (section_agreement in_sequence sequence_naming (vec_agreement T.agreement)) T.meant_by_null };
 }

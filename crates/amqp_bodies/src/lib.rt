@@ -18,6 +18,6 @@ mod values;
 pub use body::Body;
 pub use iterators::{DataIter, IntoData, IntoSequence, SequenceIter};
 pub use traits::{
-    AsBodyRef, CanonicalBody, DeserializableBody, FromBody, FromEmptyBody, IntoBody, NullBody,
-    PlainFromBody, PlainIntoBody, SerializableBody, TransposeOption, ValueBody, ValueFromBody,
+    AsBodyRef, CanonicalBody, DeserializableBody, FromBody, FromEmptyBody, IntoBody, PlainFromBody,
+    PlainIntoBody, SerializableBody, TransposeOption, ValueBody, ValueFromBody,
 };

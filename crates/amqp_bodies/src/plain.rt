@@ -2,6 +2,7 @@
 ghost use Rattle.amqp_bodies.specs.ReadsAs.{reads_itself};
 ghost use Rattle.amqp_bodies.specs.Bodies.{no_value};
 ghost use Rattle.amqp_bodies.specs.BodySections.{plain_made};
+ghost use Rattle.amqp_bodies.specs.NullBodies.{none_spelled};
 
 use crate::traits::{FromBody, FromEmptyBody, PlainFromBody, ValueBody, ValueFromBody};
 use amqp_codec::{DeserializeTerm, MapKey, Symbol};
@@ -25,7 +26,7 @@ impl<T: PlainFromBody> FromEmptyBody for T {
 }
 
 impl<T: PlainFromBody> ValueBody for T {
-    ghost empty_is_null = { λ v h. absurd h };
+    ghost empty_is_spelled = { none_spelled T.term };
 }
 
 impl<T: PlainFromBody> ValueFromBody for T {}

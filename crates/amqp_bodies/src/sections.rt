@@ -294,5 +294,5 @@ impl<T: ValueBody> CanonicalBody for AmqpValue<T> {
 
     ghost lasts = { λ _. Unit {0} };
 
-    ghost is_text = { value_is_text T.agreement T.empties T.empty_is_null };
+    ghost is_text = { value_is_text T.agreement T.empties T.empty_is_spelled };
 }

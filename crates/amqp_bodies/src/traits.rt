@@ -1,8 +1,7 @@
 //! What can be the body of a message (Part 3, section 3.2).
-ghost use Rattle.std.specs.Prelude.{◌≡◌, ◌⊎◌, ◌∷◌, [], ℕ, List, Option, Some, None, IfOk, IfErr};
+ghost use Rattle.std.specs.Prelude.{◌≡◌, ◌⊎◌, ℕ, List, Option, Some, None, IfOk, IfErr};
 ghost use Rattle.amqp_bodies.specs.BodyTexts.{IsBodyText};
-ghost use Rattle.amqp_bodies.specs.NullBodies.{IsNull};
-ghost use Rattle.amqp_model.specs.Term.{null, leaf};
+ghost use Rattle.amqp_bodies.specs.NullBodies.{AreSpelled};
 ghost use Rattle.amqp_wire.specs.Sources.{Tells};
 ghost use Rattle.amqp_wire.specs.declared.error.Error.TheVariants.{Memory, EmptyBody};
 ghost use Rattle.amqp_decoder.specs.Places.{AnswersAt};
@@ -172,8 +171,8 @@ pub trait CanonicalBody: FromBody<Body = Self> + SerializableBody {
 
 /// What can be the value of a message's body, so that a message that has no body is read again from its text.
 pub trait ValueBody: DeserializeTerm + FromEmptyBody {
-    // What takes the place of an absent body is what a null means.
-    ghost empty_is_null: { (v : Self) → Self.empties.is v → IsNull Self.term v };
+    // What takes the place of an absent body is one value, and bytes spell the section with it.
+    ghost empty_is_spelled: { AreSpelled Self.term Self.empties };
 }
 
 /// A type whose values are read from an `AmqpValue` if they are the body of a message.
@@ -182,14 +181,3 @@ pub trait ValueFromBody: ValueBody {}
 /// A type whose values are read from an `AmqpValue` if they are the body of a message. No value of it takes the place of an absent body.
 /// Implement this empty trait to make your type `FromBody`.
 pub trait PlainFromBody: DeserializeTerm {}
-
-/// A type with a null among its values, so that an absent body of any kind is read again from its text, as that null.
-pub trait NullBody: ValueBody {
-    // The null.
-    ghost nothing: { Self };
-
-    // It is what a null means, and is written as one.
-    ghost nothing_is_null: { IsNull Self.term nothing };
-
-    ghost nothing_is_written: { Self.writing.canons nothing ≡ leaf null ∷ [] };
-}

@@ -1,9 +1,8 @@
 //! Values as the body of a message (Part 3, section 3.2.8).
-ghost use Rattle.std.specs.Prelude.{None, refl};
-ghost use Rattle.amqp_values.specs.declared.value.Value.TheVariants.{Null};
+ghost use Rattle.amqp_bodies.specs.NullBodies.{nulls_spelled};
 ghost use Rattle.amqp_bodies.specs.PlainBodies.{null_value, lazy_null, none_value, null_is_null, none_is_null};
 
-use crate::traits::{FromEmptyBody, NullBody, ValueBody};
+use crate::traits::{FromEmptyBody, ValueBody};
 use amqp_codec::DeserializeTerm;
 use amqp_lazy::LazyValue;
 use amqp_values::Value;
@@ -20,15 +19,7 @@ impl FromEmptyBody for Value {
 }
 
 impl ValueBody for Value {
-    ghost empty_is_null = { null_is_null };
-}
-
-impl NullBody for Value {
-    ghost nothing = { Null };
-
-    ghost nothing_is_null = { null_is_null Null refl };
-
-    ghost nothing_is_written = { refl };
+    ghost empty_is_spelled = { nulls_spelled _ _ null_is_null };
 }
 
 /// Returns the bytes of a null.
@@ -41,7 +32,7 @@ impl FromEmptyBody for LazyValue {
 }
 
 impl ValueBody for LazyValue {
-    ghost empty_is_null = { λ v h. h };
+    ghost empty_is_spelled = { nulls_spelled _ _ (λ v h. h) };
 }
 
 /// Returns `None`.
@@ -54,13 +45,5 @@ impl<T> FromEmptyBody for Option<T> {
 }
 
 impl<T: DeserializeTerm> ValueBody for Option<T> {
-    ghost empty_is_null = { none_is_null T.term };
-}
-
-impl<T: DeserializeTerm> NullBody for Option<T> {
-    ghost nothing = { None };
-
-    ghost nothing_is_null = { refl };
-
-    ghost nothing_is_written = { refl };
+    ghost empty_is_spelled = { nulls_spelled _ _ (none_is_null T.term) };
 }

@@ -37,10 +37,9 @@ pub record Rewriting {T : Type 0} (r : Reading T) (canons : T → List Term) (is
   pub reads_again : (v : T) (more : List ℕ) → is_value v → lasts v → AreWritable (canons v) → follows more
       → BeginsWith r (row_text (canons v) ++ more) (again v) (length (row_text (canons v)))
   pub text_again : (v : T) → is_value v → AreWritable (canons v) → row_text (canons (again v)) ≡ row_text (canons v)
-  -- what was read is a value, is read again, as itself, is written but for its size, was read without limits, too, and is written in no
-  -- more bytes
+  -- what was read is a value, is its own text's where that is kept, is written but for its size, was read without limits, too, and is
+  -- written in no more bytes
   pub value : (input : List ℕ) (v : T) (n : ℕ) → BeginsWith r input v n → is_value v
-  pub lasting : (input : List ℕ) (v : T) (n : ℕ) → BeginsWith r input v n → lasts v
   pub own : (input : List ℕ) (v : T) (n : ℕ) → BeginsWith r input v n → kept v → r.same (again v) v
   pub large : (input : List ℕ) (v : T) (n : ℕ) (e : Error) → BeginsWith r input v n → AreUnwritable (canons v) e → e ≡ TooLarge
   pub bounded : (limits : Limits) → ReadsNoMore limits r
@@ -88,7 +87,6 @@ module _ {T : Type 0} {u : TermType T} {w : Writing T} (tie : Agreement u w) whe
     reads_again = λ v more i _ f _. term_again v more i f;
     text_again = term_text;
     value = term_value;
-    lasting = λ input v n _. tt;
     own = λ input v n h _. spelled_own u (take n input) v (read_spelled u input v n h).1;
     large = term_large;
     bounded = λ limits input v n h. ((read_within u limits input v n).0 h).0;

@@ -1,4 +1,5 @@
 //! Optional values, boxes and values with several owners, which are read and written; and references, which are written only.
+ghost use Rattle.std.specs.Prelude.{Some, None};
 ghost use Rattle.amqp_codec.specs.OptionType.{option_of};
 ghost use Rattle.amqp_codec.specs.Wrappers.{boxed, in_box, reference_counted, in_rc};
 ghost use Rattle.amqp_codec.specs.Agreement.{option_one, option_agreement, option_writing, via_writing, held_agreement};
@@ -42,6 +43,8 @@ impl<T: SerializeTerm> SerializeTerm for Option<T> {
 
 impl<T: DeserializeTerm> DeserializeTerm for Option<T> {
     ghost term = { option_of T.term };
+
+    ghost meant_by_null = { Some None };
 
     fn read_value<R: ByteSource>(
         decoder: &mut Decoder<R>,

@@ -1,5 +1,5 @@
 //! Null, booleans and characters (Part 1, sections 1.6.1, 1.6.2 and 1.6.16).
-ghost use Rattle.std.specs.Prelude.{refl};
+ghost use Rattle.std.specs.Prelude.{refl, Some};
 ghost use Rattle.amqp_codec.specs.PrimitiveTypes.{null_type, boolean_type, char_type};
 ghost use Rattle.amqp_codec.specs.Agreement.{one_term, agreement, writing_of};
 
@@ -29,6 +29,8 @@ impl SerializeTerm for () {
 
 impl DeserializeTerm for () {
     ghost term = { null_type };
+
+    ghost meant_by_null = { Some tt };
 
     fn read_value<R: ByteSource>(decoder: &mut Decoder<R>, _alloc: Global) -> Result<(), Error> {
         decoder.read_null()

@@ -1,5 +1,5 @@
 //! What can be read, written, or both.
-ghost use Rattle.std.specs.Prelude.{◌≡◌, ℕ, Bool, List};
+ghost use Rattle.std.specs.Prelude.{◌≡◌, ℕ, Bool, List, Option, None};
 ghost use Rattle.amqp_model.specs.FieldType.{normal};
 ghost use Rattle.amqp_model.specs.Items.{is_null};
 ghost use Rattle.amqp_codec.specs.TermType.{TermType};
@@ -87,6 +87,9 @@ pub trait SerializeTerm: Serialize {
 pub trait DeserializeTerm: SerializeTerm + Sized + Drop {
     // Which terms mean the values, which one is canonical, and the laws of both.
     ghost term: { TermType Self };
+
+    // The value that a null means, if an impl tells it.
+    ghost meant_by_null: { Option Self } = { None };
 
     /// Reads the value that comes next. An error is `Memory`, if reading the type allocates, or the source's; or it reports a fault of the
     /// value.

@@ -118,10 +118,10 @@ impl<R: ByteSource> Decoder<R> {
         Ok(bytes)
     }
 
-    // The size that a value with one of these two codes begins with, if the code and the size are at hand. Else nothing is taken, and that
-    // says nothing about the value.
+    // The size that a plain value with one of these two codes begins with, if the code and the size are at hand. Else nothing is taken, and
+    // that says nothing about the value.
     #[inline(always)]
-    fn quick_len(&mut self, narrow: u8, wide: u8) -> Option<u32>
+    fn plain_len(&mut self, narrow: u8, wide: u8) -> Option<u32>
         ensures none { result ≡ None → self.new ≡ self.old }
         ensures read { IfSome result (λ n. Tells R.remaining → ReadsLen narrow wide self.old n self.new) }
         ensures began { IfSome result (λ _. Began self.old self.new) }
@@ -139,9 +139,44 @@ impl<R: ByteSource> Decoder<R> {
         None
     }
 
+    // The same of an array's item.
+    #[inline(always)]
+    fn element_len(&mut self, narrow: u8, wide: u8) -> Option<u32>
+        requires narrow { 0 < narrow }
+        requires wide { 0 < wide }
+        ensures none { result ≡ None → self.new ≡ self.old }
+        ensures read { IfSome result (λ n. Tells R.remaining → ReadsLen narrow wide self.old n self.new) }
+        ensures began { IfSome result (λ _. Began self.old self.new) }
+    {
+        if let Some(size) = self.element::<1>(narrow) {
+            return Some(u32::from(size[0]));
+        }
+        match self.element(wide) {
+            Some(size) => Some(u32::from_be_bytes(size)),
+            None => None,
+        }
+    }
+
+    // The same of a value, plain or in an array.
+    #[inline(always)]
+    fn quick_len(&mut self, narrow: u8, wide: u8) -> Option<u32>
+        requires narrow { 0 < narrow }
+        requires wide { 0 < wide }
+        ensures none { result ≡ None → self.new ≡ self.old }
+        ensures read { IfSome result (λ n. Tells R.remaining → ReadsLen narrow wide self.old n self.new) }
+        ensures began { IfSome result (λ _. Began self.old self.new) }
+    {
+        match self.plain_len(narrow, wide) {
+            Some(len) => Some(len),
+            None => self.element_len(narrow, wide),
+        }
+    }
+
     // The content of a value that has these two constructors, wherever it refuses.
     #[inline(always)]
     fn content(&mut self, narrow: u8, wide: u8, alloc: Global) -> Result<Vec<u8>, Error>
+        requires narrow { 0 < narrow }
+        requires wide { 0 < wide }
         ensures ok { Tells R.remaining → IfOk result (λ text. ReadsText narrow wide self.old text.items self.new) }
         ensures err { Tells R.remaining → IfErr result (λ e. AnswersFault true (TextFault narrow wide) self.old e self.new) }
         ensures tries { Tries true self.old result self.new }

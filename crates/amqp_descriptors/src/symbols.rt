@@ -26,7 +26,9 @@ fn has_symbol(named: TypeName, name: &[u8], suffix: &[u8]) -> bool {
 }
 
 /// Returns the code of the type whose descriptor has this symbol, as `amqp:open:list`.
-pub fn code_of_symbol(symbol: &[u8]) -> Option<u64> {
+pub fn code_of_symbol(symbol: &[u8]) -> Option<u64>
+    ensures { IfSome result (λ code. (named : TypeName) × (code_of named ≡ Some code)) }
+{
     let (name, suffix) = parts_of(symbol)?;
     for code in FIRST_CODE..=LAST_CODE {
         if let Some(named) = type_of_code(code) {

@@ -18,11 +18,6 @@ use Rattle.amqp_sections.specs.Sections.{data_naming, in_data, sequence_naming, 
 use Rattle.amqp_sections.specs.declared.data.Data.{Data}
 use Rattle.amqp_sections.specs.declared.amqp_sequence.AmqpSequence.{AmqpSequence}
 use Rattle.amqp_sections.specs.declared.amqp_value.AmqpValue.{AmqpValue}
-use Rattle.amqp_annotations.specs.AnnotationsType.{annotations_type}
-use Rattle.amqp_map_sections.specs.MapSections.{delivery_annotations_naming, in_delivery_annotations, message_annotations_naming}
-use Rattle.amqp_map_sections.specs.MapSections.{in_message_annotations, footer_naming, in_footer, application_properties_naming}
-use Rattle.amqp_map_sections.specs.MapSections.{in_application_properties}
-use Rattle.amqp_map_sections.specs.SimpleMaps.{simple_map_type}
 use Rattle.amqp_message_headers.specs.Tables.{header, properties}
 use Rattle.amqp_batches.specs.declared.transparent_vec.TransparentVec.{TransparentVec}
 use Rattle.amqp_batches.specs.Batches.{batch_reading, batch_writing}
@@ -38,7 +33,8 @@ use Rattle.amqp_bodies.specs.SeenReading.{seen_reading, seen_bound}
 use Rattle.amqp_messages.specs.declared.message.Message.{Message}
 use Rattle.amqp_messages.specs.declared.order.Order.TheVariants.{Any, Written}
 use Rattle.amqp_messages.specs.declared.strict.Strict.{Strict}
-use Rattle.amqp_messages.specs.MessageTypes.{message_of, message_in}
+use Rattle.amqp_messages.specs.MessageKinds.{delivery_annotations, message_annotations, application_properties, footer}
+use Rattle.amqp_messages.specs.Messages.{message_of, message_in}
 use Rattle.amqp_messages.specs.MessageWalk.{message_walk}
 use Rattle.amqp_messages.specs.MessageWriting.{message_writing}
 
@@ -103,12 +99,17 @@ strictly made = reading_via (walk_reading (message_walk Written (message_of made
 
 -- The terms that they are written as.
 abbrev pub message_terms : {B : Type 0} → Writing B → Message B → List Term
-message_terms body =
-    (message_writing (writing_of (composite header) refl)
-    (writing_of (section_of in_delivery_annotations delivery_annotations_naming annotations_type) refl)
-    (writing_of (section_of in_message_annotations message_annotations_naming annotations_type) refl) (writing_of (composite properties) refl)
-    (writing_of (section_of in_application_properties application_properties_naming simple_map_type) refl)
-    (writing_of (section_of in_footer footer_naming annotations_type) refl) body).canons
+message_terms {B} body =
+    (message_writing {B = B} (
+      writing_of (composite header) refl,
+      (
+        writing_of delivery_annotations refl,
+        (
+          writing_of message_annotations refl,
+          (writing_of (composite properties) refl, (writing_of application_properties refl, (body, (writing_of footer refl, tt)))),
+        ),
+      ),
+    )).canons
 
 abbrev pub strict_terms : {B : Type 0} → Writing B → Strict B → List Term
 strict_terms body strict = message_terms body (message_in strict)

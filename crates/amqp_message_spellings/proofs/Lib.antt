@@ -1,5 +1,2 @@
-pub mod Codes
-pub mod Turned
-pub mod Messages
 pub mod MessageFaults
 pub mod Sections

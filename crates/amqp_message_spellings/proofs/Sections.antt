@@ -13,13 +13,13 @@ use Rattle.amqp_sections.specs.declared.data.Data.{Data as DataSection}
 use Rattle.amqp_bodies.specs.declared.body.Body.TheVariants.{Value, Data, Sequence, Empty}
 use Rattle.amqp_bodies.specs.Bodies.{Made}
 use Rattle.amqp_bodies.specs.SpelledBodies.{IsBody, IsThere}
-use Rattle.amqp_message_spellings.specs.Messages.{IsMessage, IsStrictMessage, kinds}
+use Rattle.amqp_messages.specs.Kinds.{Kinds, none, kind, ForEach, Group, IsGroup}
+use Rattle.amqp_messages.specs.MessageKinds.{seven, spelled, IsMessage, IsStrictMessage}
 use Rattle.amqp_section_slices.specs.declared.section_kind.SectionKind.{SectionKind}
 use Rattle.amqp_section_slices.specs.Kinds.{code_of}
 use Rattle.amqp_section_slices.specs.Slices.{BeginsWithSection}
 use Rattle.amqp_batches.specs.Batches.{sections_in}
 use Rattle.amqp_batches.specs.Spellings.{Spells, Are, IsTerm, IsSection, IsBatch}
-use Rattle.amqp_message_spellings.specs.Kinds.{Kinds, none, kind, Group, IsGroup}
 use Rattle.amqp_message_spellings.specs.Sections.{AreSections, HasSections, IsNextOf}
 
 append_sections : (x : List ℕ) (cs : List ℕ) (y : List ℕ) (ds : List ℕ) (more : List ℕ) → AreSections x cs (y ++ more) → AreSections y ds more
@@ -67,21 +67,22 @@ body_of_sections value data_ sequence b (Sequence v) more c ahead (at, spelled) 
 body_of_sections value data_ sequence b Empty more c ahead spelled = absurd spelled
 
 -- So of each kind of groups.
-abbrev pub AllOfSections : Kinds → Type 0
-AllOfSections none = Unit {0}
-AllOfSections (kind k ks) = AreOfSections k.spells × AllOfSections ks
+abbrev pub AllOfSections : (ks : Kinds) → ForEach Spells ks → Type 0
+AllOfSections none ss = Unit {0}
+AllOfSections (kind T codes ks) ss = AreOfSections ss.0 × AllOfSections ks ss.1
 
-group_sections : (ks : Kinds) → AllOfSections ks → (b : List ℕ) (g : Group ks) (more : List ℕ) → IsGroup ks b g more → HasSections b more
-group_sections none all b g more h = absurd h
-group_sections (kind k ks) (one, all) b (inl g) more (comes, spelled) = one b g more comes.code comes.ahead spelled
-group_sections (kind k ks) (one, all) b (inr g) more h = group_sections ks all b g more h
+group_sections : (ks : Kinds) (ss : ForEach Spells ks) → AllOfSections ks ss → (b : List ℕ) (g : Group ks) (more : List ℕ)
+    → IsGroup ks ss b g more → HasSections b more
+group_sections none ss all b g more h = absurd h
+group_sections (kind T codes ks) ss all b (inl g) more (comes, spelled) = all.0 b g more comes.code comes.ahead spelled
+group_sections (kind T codes ks) ss all b (inr g) more h = group_sections ks ss.1 all.1 b g more h
 
-pub groups_sections : (ks : Kinds) → AllOfSections ks → (gs : List (Group ks)) (b more : List ℕ) → Are (IsGroup ks) b gs more
-    → HasSections b more
-groups_sections ks all [] b more e = ([], e)
-groups_sections ks all (g ∷ gs) b more (first, others, e, h, are) =
-    let x = group_sections ks all first g (others ++ more) h in
-    let y = groups_sections ks all gs others more are in (
+groups_sections : (ks : Kinds) (ss : ForEach Spells ks) → AllOfSections ks ss → (gs : List (Group ks)) (b more : List ℕ)
+    → Are (IsGroup ks ss) b gs more → HasSections b more
+groups_sections ks ss all [] b more e = ([], e)
+groups_sections ks ss all (g ∷ gs) b more (first, others, e, h, are) =
+    let x = group_sections ks ss all first g (others ++ more) h in
+    let y = groups_sections ks ss all gs others more are in (
       x.0 ++ y.0,
       subst (λ z. AreSections z (x.0 ++ y.0) more) (sym e) (append_sections first x.0 others y.0 more x.1 y.1),
     )
@@ -101,26 +102,17 @@ next_section b c cs more named bytes rest (first, others, e, (ahead, (t, spelled
     }
 
 module _ {S B : Type 0} (made : Made S B) (group : Spells S) (of_sections : AreOfSections group) where
-  all_kinds : AllOfSections (kinds made group)
+  all_kinds : AllOfSections (seven S) (spelled group)
   all_kinds = (
     term_of_sections _,
     (
       term_of_sections _,
-      (
-        term_of_sections _,
-        (
-          term_of_sections _,
-          (
-            term_of_sections _,
-            (of_sections, (term_of_sections _, tt)),
-          ),
-        ),
-      ),
+      (term_of_sections _, (term_of_sections _, (term_of_sections _, (of_sections, (term_of_sections _, tt))))),
     ),
   )
 
   pub message_sections : (b : List ℕ) (v : _) (more : List ℕ) → IsMessage made group b v more → HasSections b more
-  message_sections b v more h = groups_sections (kinds made group) all_kinds h.groups b more h.are
+  message_sections b v more h = groups_sections (seven S) (spelled group) all_kinds h.groups b more h.are
 
   pub strict_sections : (b : List ℕ) (v : _) (more : List ℕ) → IsStrictMessage made group b v more → HasSections b more
-  strict_sections b v more h = groups_sections (kinds made group) all_kinds h.groups b more h.are
+  strict_sections b v more h = groups_sections (seven S) (spelled group) all_kinds h.groups b more h.are

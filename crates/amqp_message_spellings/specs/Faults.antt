@@ -6,16 +6,20 @@ use Rattle.amqp_lookahead.specs.Sections.{IsSectionAhead}
 use Rattle.amqp_batches.specs.Spellings.{Spells, Are}
 use Rattle.amqp_batches.specs.SpellingFaults.{Faults, IsNoTerm}
 use Rattle.amqp_bodies.specs.Bodies.{Made}
-use Rattle.amqp_messages.specs.Orders as orders
-use Rattle.amqp_message_spellings.specs.Kinds.{Group, IsGroup, is_in, nothing, put_all, behind, Fall}
-use Rattle.amqp_message_spellings.specs.Messages.{kinds, body_in}
+use Rattle.amqp_messages.specs.Kinds.{Kinds, none, kind, ForEach, Group, IsGroup, is_in, nothing, put_all, behind, Fall}
+use Rattle.amqp_messages.specs.MessageKinds.{seven, by_type, spelled, body_in, behind_section}
 
-abbrev pub is_of_body : ℕ → Bool
-is_of_body c = is_in (0x75 ∷ 0x76 ∷ 0x77 ∷ []) c
+-- The faults of each kind, and those of the kind whose sections may have this code.
+abbrev pub KindFaults : Kinds → Type 1
+KindFaults ks = ForEach (λ _. Faults) ks
+
+abbrev pub IsKindFault : (ks : Kinds) → KindFaults ks → ℕ → Faults
+IsKindFault none fs c at e = ⊥
+IsKindFault (kind T codes ks) fs c at e = ((is_in codes c ≡ true) × fs.0 at e) ⊎ IsKindFault ks fs.1 c at e
 
 -- What begins as a section of this code has the fault: a group of a body, or one section.
-abbrev pub IsGroupFault : Faults → ℕ → Faults
-IsGroupFault body c at e = ((is_of_body c ≡ true) × body at e) ⊎ ((is_of_body c ≡ false) × IsNoTerm at e)
+abbrev pub IsGroupFault : Type 0 → Faults → ℕ → Faults
+IsGroupFault S body c at e = IsKindFault (seven S) (by_type {F = λ _. Faults} (λ T u. IsNoTerm) {S = S} body) c at e
 
 -- Bytes are there, and no section comes next.
 abbrev pub IsNoSection : Faults
@@ -23,40 +27,40 @@ IsNoSection at e = (at ≡ [] → ⊥) × ((c : ℕ) → IsSectionAhead at c →
 
 module _ {S B : Type 0} (made : Made S B) (group : Spells S) where
   -- There is no body, and nothing takes its place.
-  abbrev pub HasNoBody : List (Group (kinds made group)) → Error → Type 0
+  abbrev pub HasNoBody : List (Group (seven S)) → Error → Type 0
   HasNoBody groups e =
-      (body_in made group (put_all (kinds made group) groups (nothing (kinds made group))) ≡ None) × (e ≡ EmptyBody)
+      (body_in (put_all (seven S) groups (nothing (seven S))) ≡ None) × (e ≡ EmptyBody)
       × ((v : B) → made.empty v → ⊥)
 
   -- Of these bytes, behind some whole groups, this is so.
-  pub record IsBehindGroups (why : List (Group (kinds made group)) → List ℕ → Type 0) (input : List ℕ) : Type 0 where
+  pub record IsBehindGroups (why : List (Group (seven S)) → List ℕ → Type 0) (input : List ℕ) : Type 0 where
     pub bytes : List ℕ
-    pub groups : List (Group (kinds made group))
+    pub groups : List (Group (seven S))
     pub at : List ℕ
     pub split : input ≡ bytes ++ at
-    pub are : Are (IsGroup (kinds made group)) bytes groups at
+    pub are : Are (IsGroup (seven S) (spelled group)) bytes groups at
     pub is : why groups at
 
   -- Behind at most six groups the next one has the fault, or there is none; or of all of them no message is made.
-  abbrev pub HasFault : Faults → Error → List (Group (kinds made group)) → List ℕ → Type 0
+  abbrev pub HasFault : Faults → Error → List (Group (seven S)) → List ℕ → Type 0
   HasFault body e groups at =
-      ((length groups < 7) × (((c : ℕ) × IsSectionAhead at c × IsGroupFault body c at e) ⊎ IsNoSection at e))
+      ((length groups < 7) × (((c : ℕ) × IsSectionAhead at c × IsGroupFault S body c at e) ⊎ IsNoSection at e))
       ⊎ ((length groups ≤ 7) × ((length groups ≡ 7) ⊎ (at ≡ [])) × HasNoBody groups e)
 
   abbrev pub IsMessageFault : Faults → Faults
   IsMessageFault body input e = IsBehindGroups (HasFault body e) input
 
   -- How many kinds may still come behind these groups.
-  abbrev pub left_behind : ℕ → List (Group (kinds made group)) → ℕ
+  abbrev pub left_behind : ℕ → List (Group (seven S)) → ℕ
   left_behind n [] = n
-  left_behind n (g ∷ gs) = left_behind (behind (kinds made group) g) gs
+  left_behind n (g ∷ gs) = left_behind (behind (seven S) g) gs
 
   -- The same in the standard's order: the section that comes next may also be out of its place.
-  abbrev pub HasStrictFault : Faults → Error → List (Group (kinds made group)) → List ℕ → Type 0
+  abbrev pub HasStrictFault : Faults → Error → List (Group (seven S)) → List ℕ → Type 0
   HasStrictFault body e groups at =
-      Fall (kinds made group) 7 groups × ((((c : ℕ) × IsSectionAhead at c
-      × (((orders.behind c < left_behind 7 groups) × IsGroupFault body c at e)
-      ⊎ ((left_behind 7 groups ≤ orders.behind c) × (e ≡ Misplaced))))
+      Fall (seven S) 7 groups × ((((c : ℕ) × IsSectionAhead at c
+      × (((behind_section c < left_behind 7 groups) × IsGroupFault S body c at e)
+      ⊎ ((left_behind 7 groups ≤ behind_section c) × (e ≡ Misplaced))))
       ⊎ IsNoSection at e) ⊎ ((at ≡ []) × HasNoBody groups e))
 
   abbrev pub IsStrictFault : Faults → Faults

@@ -1,4 +1,2 @@
 pub mod Sections
-pub mod Kinds
-pub mod Messages
 pub mod Faults

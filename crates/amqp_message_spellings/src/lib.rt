@@ -15,7 +15,7 @@ ghost use Rattle.amqp_batches.specs.Spellings.{IsReadExactly, IsTerm, IsSection,
 ghost use Rattle.amqp_batches.specs.SpellingFaults.{IsRefusedFor, IsNoTerm, IsRunFault, IsSectionFault};
 ghost use Rattle.amqp_bodies.specs.SpelledBodies.{IsBody, IsThere};
 ghost use Rattle.amqp_bodies.specs.SpelledFaults.{IsBodyFault};
-ghost use Rattle.amqp_message_spellings.specs.Messages.{IsMessage, IsStrictMessage};
+ghost use Rattle.amqp_messages.specs.MessageKinds.{IsMessage, IsStrictMessage};
 ghost use Rattle.amqp_message_spellings.specs.Sections.{AreSections, HasSections, IsNextOf};
 ghost use Rattle.amqp_message_spellings.specs.Faults.{IsMessageFault, IsStrictFault};
 

@@ -115,6 +115,16 @@ fn texts_of_strict_messages(rt: HostRuntime) -> Result<(), Fail> {
     check_strict_text::<Body<Value>>(WHOLE, WHOLE, alloc)
 }
 
+#[test]
+fn texts_of_bodies_of_numbers(rt: HostRuntime) -> Result<(), Fail> {
+    let alloc = rt.alloc();
+    check_strict_text::<Body<i32>>("0053777100000007", "0053775407", alloc)?;
+    check_strict_text::<Body<i32>>("005375b00000000161", "005375a00161", alloc)?;
+    // An absent body is written as a null, though no number is one.
+    check_strict_text::<Body<i32>>("00537045", "0053704500537740", alloc)?;
+    check_refused::<Strict<Body<i32>>>("0053704500537740", Error::WrongType(0x40), alloc)
+}
+
 // The sections, in this order, are a message that is written in the standard's.
 fn check_order(sections: &[&str], alloc: Global) -> Result<(), Fail> {
     let mut digits = String::new(alloc);

@@ -1,92 +1,96 @@
 -- A group of a message is read into what was read before.
-use Rattle.std.proofs.Common.{◌≡◌, ℕ, Bool, true, false, eqb, Option, Some, Result, Ok, Err, refl, sym, ap, subst}
+use Rattle.std.proofs.Common.{◌≡◌, ◌⊎◌, inl, inr, ℕ, zero, suc, Bool, true, false, ◌||◌, eqb, [], ◌∷◌, Result, Ok, Err, refl, sym, ap, ap₂, subst}
 use Rattle.std.proofs.lemmas.Bool.{eqb-true}
 use Rattle.amqp_wire.specs.declared.error.Error.{Error}
 use Rattle.amqp_decoder.specs.State.{State}
-use Rattle.amqp_map_sections.specs.declared.application_properties.ApplicationProperties.{ApplicationProperties}
-use Rattle.amqp_map_sections.specs.declared.delivery_annotations.DeliveryAnnotations.{DeliveryAnnotations}
-use Rattle.amqp_map_sections.specs.declared.footer.Footer.{Footer}
-use Rattle.amqp_message_headers.specs.declared.header.Header.{Header}
-use Rattle.amqp_map_sections.specs.declared.message_annotations.MessageAnnotations.{MessageAnnotations}
-use Rattle.amqp_message_headers.specs.declared.properties.Properties.{Properties}
-use Rattle.amqp_messages.specs.declared.message.Groups.{Groups}
-use Rattle.amqp_messages.specs.Groups.{Kind}
-use Rattle.amqp_messages.specs.Messages as messages
-use Rattle.amqp_messages.specs.Messages.{Readings, pick, kind_of, weight, body_kind}
-use Rattle.amqp_messages.specs.MessageTypes.{AnswersPut, AnswersGroup}
+use Rattle.amqp_codec.specs.laws.Refusal.{refused_first}
+use Rattle.amqp_messages.specs.Kinds.{Kinds, none, kind, is_in, Fields}
+use Rattle.amqp_messages.specs.KindsReading.{has, AreApart, Readings, Reads, KindFault}
+use Rattle.amqp_messages.specs.laws.KindsReading.{not_in, reads_has}
+use Rattle.amqp_bodies.specs.Bodies.{Made}
+use Rattle.amqp_messages.specs.MessageKinds.{seven}
+use Rattle.amqp_messages.specs.Messages.{readings_of, seven_apart}
+use Rattle.amqp_messages.specs.GroupAnswers.{AnswersPut, AnswersGroup}
 
--- what was read is put into its place
-pub filled : {M : Type 0} {alike : M → M → Type 0} {weight : M → ℕ} (k : Kind M alike weight) (m x : M) (place : Option k.Group) (st : State)
-    (answer : Result (Unit {0}) Error) (b : State) → ((g : k.Group) → place ≡ Some g → x ≡ k.put g m)
-    → AnswersPut k.reading place st answer b → AnswersGroup k m x st answer b
-filled k m x place st (Ok none) b put (g, h, e) = record { group = g; read = h; is = put g e }
-filled k m x place st (Err e) b put h = h
+-- The kind at this place has the code, and none before it.
+abbrev pub IsPlace : Kinds → ℕ → ℕ → Type 0
+IsPlace none n c = ⊥
+IsPlace (kind T codes ks) zero c = is_in codes c ≡ true
+IsPlace (kind T codes ks) (suc n) c = (is_in codes c ≡ false) × IsPlace ks n c
 
-pick_other : {A : Type 1} (P : A → Type 0) (b : Bool) (x y : A) → (b ≡ true → ⊥) → P y → P (pick b x y)
-pick_other P true x y other h = absurd (other refl)
-pick_other P false x y other h = h
+-- What was read stands at this place, and all else is as it was.
+abbrev pub PutsAt : (ks : Kinds) → Readings ks → ℕ → Fields ks → Fields ks → State → Result (Unit {0}) Error → State → Type 0
+PutsAt none rs n m x st answer b = ⊥
+PutsAt (kind T codes ks) rs zero m x st answer b = AnswersPut rs.0 x.0 st answer b × (x.1 ≡ m.1)
+PutsAt (kind T codes ks) rs (suc n) m x st answer b = (x.0 ≡ m.0) × PutsAt ks rs.1 n m.1 x.1 st answer b
 
--- every other section is a body's
-pub at_body : {S : Type 0} (r : Readings S) (P : Kind (Groups S) (messages.AreAlike r) (weight r) → Type 0) (c : ℕ) → (c ≡ 0x70 → ⊥)
-    → (c ≡ 0x71 → ⊥) → (c ≡ 0x72 → ⊥) → (c ≡ 0x73 → ⊥) → (c ≡ 0x74 → ⊥) → (c ≡ 0x78 → ⊥) → P (body_kind r) → P (kind_of r c)
-at_body r P c h d m p a f body =
-    pick_other P (eqb c 0x70) _ _ (λ t. h (eqb-true c 0x70 t))
-    (pick_other P (eqb c 0x71) _ _ (λ t. d (eqb-true c 0x71 t))
-    (pick_other P (eqb c 0x72) _ _ (λ t. m (eqb-true c 0x72 t))
-    (pick_other P (eqb c 0x73) _ _ (λ t. p (eqb-true c 0x73 t))
-    (pick_other P (eqb c 0x74) _ _ (λ t. a (eqb-true c 0x74 t))
-    (pick_other P (eqb c 0x78) _ _ (λ t. f (eqb-true c 0x78 t)) body)))))
+-- a group of the first kind, and one of a later kind
+first_answer : (T : Type 0) (codes : _) (ks : Kinds) (rs : Readings (kind T codes ks)) → AreApart (kind T codes ks) → (c : ℕ)
+    (m x : Fields (kind T codes ks)) (st : State) (answer : Result (Unit {0}) Error) (b : State) → is_in codes c ≡ true
+    → AnswersPut rs.0 x.0 st answer b → x.1 ≡ m.1 → AnswersGroup (kind T codes ks) rs c m x st answer b
+first_answer T codes ks rs apart c m x st (Ok done) b i (v, r, e) same = (inl v, (i, r), ap₂ (λ y z. (y, z)) e same)
+first_answer T codes ks rs apart c m x st (Err e) b i h same =
+    refused_first _ _ _ _ _ _ _ (λ _. refl) (λ f k. inl (i, k)) nothing_else h
+  where
+    nothing_else : ((v : T) (b : State) → rs.0.reads st v b → ⊥) → (g : _) (b : State) → Reads (kind T codes ks) rs c st g b → ⊥
+    nothing_else n (inl v) b k = n v b k.1
+    nothing_else n (inr g) b k = not_in ks codes c apart.0 i (reads_has ks rs.1 c st g b k)
+
+later_answer : (T : Type 0) (codes : _) (ks : Kinds) (rs : Readings (kind T codes ks)) (c : ℕ)
+    (m x : Fields (kind T codes ks)) (st : State) (answer : Result (Unit {0}) Error) (b : State) → is_in codes c ≡ false
+    → x.0 ≡ m.0 → AnswersGroup ks rs.1 c m.1 x.1 st answer b → AnswersGroup (kind T codes ks) rs c m x st answer b
+later_answer T codes ks rs c m x st (Ok done) b i same (g, r, e) = (inr g, r, ap₂ (λ y z. (y, z)) same e)
+later_answer T codes ks rs c m x st (Err e) b i same h = refused_first _ _ _ _ _ _ _ (λ _. refl) (λ f k. inr k) nothing_else h
+  where
+    nothing_else : ((g : _) (b : State) → Reads ks rs.1 c st g b → ⊥) → (g : _) (b : State) → Reads (kind T codes ks) rs c st g b → ⊥
+    nothing_else n (inl v) b k = (let is = k.0 in absurd (cc))
+    nothing_else n (inr g) b k = n g b k
+
+pub put_answer : (ks : Kinds) (rs : Readings ks) → AreApart ks → (n c : ℕ) (m x : Fields ks) (st : State) (answer : Result (Unit {0}) Error)
+    (b : State) → IsPlace ks n c → PutsAt ks rs n m x st answer b → AnswersGroup ks rs c m x st answer b
+put_answer none rs apart n c m x st answer b i h = absurd i
+put_answer (kind T codes ks) rs apart zero c m x st answer b i h = first_answer T codes ks rs apart c m x st answer b i h.0 h.1
+put_answer (kind T codes ks) rs apart (suc n) c m x st answer b i h =
+    later_answer T codes ks rs c m x st answer b i.0 h.0 (put_answer ks rs.1 apart.1 n c m.1 x.1 st answer b i.1 h.1)
 
 -- by the code of the section that came next
-module _ {S : Type 0} (r : Readings S) (c : ℕ) (m : Groups S) (st : State) (answer : Result (Unit {0}) Error) (b : State) where
-  abbrev Answers : Groups S → Kind (Groups S) (messages.AreAlike r) (weight r) → Type 0
-  Answers x k = AnswersGroup k m x st answer b
+pub put_code : {S B : Type 0} (made : Made S B) (n d : ℕ) → IsPlace (seven S) n d → (c : ℕ) → c ≡ d → (m x : Fields (seven S)) (st : State)
+    (answer : Result (Unit {0}) Error) (b : State) → PutsAt (seven S) (readings_of made.group) n m x st answer b
+    → AnswersGroup (seven S) (readings_of made.group) c m x st answer b
+put_code {S} made n d i c e m x st answer b h =
+    put_answer (seven S) (readings_of made.group) (seven_apart S) n c m x st answer b (subst (IsPlace (seven S) n) (sym e) i) h
 
-  pub header_answer : (place : Option Header) → c ≡ 0x70 → AnswersPut r.header place st answer b
-      → AnswersGroup (kind_of r c) m (record m { header = place }) st answer b
-  header_answer place e h =
-      let x = record m { header = place } in
-      subst (λ z. Answers x (kind_of r z)) (sym e)
-      (filled (messages.header_kind r) m x place st answer b (λ g i. ap (λ o. record m { header = o }) i) h)
+not_true : (b : Bool) → (b ≡ true → ⊥) → b ≡ false
+not_true true h = absurd (h refl)
+not_true false h = refl
 
-  pub delivery_annotations_answer : (place : Option DeliveryAnnotations) → c ≡ 0x71 → AnswersPut r.delivery_annotations place st answer b
-      → AnswersGroup (kind_of r c) m (record m { delivery_annotations = place }) st answer b
-  delivery_annotations_answer place e h =
-      let x = record m { delivery_annotations = place } in
-      subst (λ z. Answers x (kind_of r z)) (sym e)
-      (filled (messages.delivery_annotations_kind r) m x place st answer b (λ g i. ap (λ o. record m { delivery_annotations = o }) i) h)
+beside : (x y : Bool) → x ≡ false → x || y ≡ true → y ≡ true
+beside true y e h = absurd (cc)
+beside false y e h = h
 
-  pub message_annotations_answer : (place : Option MessageAnnotations) → c ≡ 0x72 → AnswersPut r.message_annotations place st answer b
-      → AnswersGroup (kind_of r c) m (record m { message_annotations = place }) st answer b
-  message_annotations_answer place e h =
-      let x = record m { message_annotations = place } in
-      subst (λ z. Answers x (kind_of r z)) (sym e)
-      (filled (messages.message_annotations_kind r) m x place st answer b (λ g i. ap (λ o. record m { message_annotations = o }) i) h)
+or_last : (x y : Bool) → y ≡ false → x || y ≡ true → x ≡ true
+or_last true y e h = refl
+or_last false y e h = absurd (cc)
 
-  pub properties_answer : (place : Option Properties) → c ≡ 0x73 → AnswersPut r.properties place st answer b
-      → AnswersGroup (kind_of r c) m (record m { properties = place }) st answer b
-  properties_answer place e h =
-      let x = record m { properties = place } in
-      subst (λ z. Answers x (kind_of r z)) (sym e)
-      (filled (messages.properties_kind r) m x place st answer b (λ g i. ap (λ o. record m { properties = o }) i) h)
+-- a kind with one code
+other_code : (c d : ℕ) → (c ≡ d → ⊥) → is_in (d ∷ []) c ≡ false
+other_code c d not = ap (λ t. t || false) (not_true (eqb c d) (λ e. not (eqb-true c d e)))
 
-  pub application_properties_answer : (place : Option ApplicationProperties) → c ≡ 0x74 → AnswersPut r.application_properties place st answer b
-      → AnswersGroup (kind_of r c) m (record m { application_properties = place }) st answer b
-  application_properties_answer place e h =
-      let x = record m { application_properties = place } in
-      subst (λ z. Answers x (kind_of r z)) (sym e)
-      (filled (messages.application_properties_kind r) m x place st answer b (λ g i. ap (λ o. record m { application_properties = o }) i) h)
+-- a section of no other kind is a body's
+at_body : (c : ℕ) → has (seven (Unit {0})) c ≡ true → (c ≡ 0x70 → ⊥) → (c ≡ 0x71 → ⊥) → (c ≡ 0x72 → ⊥) → (c ≡ 0x73 → ⊥)
+    → (c ≡ 0x74 → ⊥) → (c ≡ 0x78 → ⊥) → IsPlace (seven (Unit {0})) 5 c
+at_body c among h d m p a f =
+    let header = other_code c 0x70 h in
+    let delivery = other_code c 0x71 d in
+    let message = other_code c 0x72 m in
+    let properties = other_code c 0x73 p in
+    let application = other_code c 0x74 a in
+    let left = beside _ _ application (beside _ _ properties (beside _ _ message (beside _ _ delivery (beside _ _ header among)))) in
+    (header, (delivery, (message, (properties, (application, or_last _ _ (ap (λ t. t || false) (other_code c 0x78 f)) left)))))
 
-  pub footer_answer : (place : Option Footer) → c ≡ 0x78 → AnswersPut r.footer place st answer b
-      → AnswersGroup (kind_of r c) m (record m { footer = place }) st answer b
-  footer_answer place e h =
-      let x = record m { footer = place } in
-      subst (λ z. Answers x (kind_of r z)) (sym e)
-      (filled (messages.footer_kind r) m x place st answer b (λ g i. ap (λ o. record m { footer = o }) i) h)
-
-  pub body_answer : (place : Option S) → (c ≡ 0x70 → ⊥) → (c ≡ 0x71 → ⊥) → (c ≡ 0x72 → ⊥) → (c ≡ 0x73 → ⊥) → (c ≡ 0x74 → ⊥)
-      → (c ≡ 0x78 → ⊥) → AnswersPut r.body place st answer b → AnswersGroup (kind_of r c) m (record m { body = place }) st answer b
-  body_answer place h d n p a f k =
-      let x = record m { body = place } in
-      at_body r (Answers x) c h d n p a f
-      (filled (body_kind r) m x place st answer b (λ g i. ap (λ o. record m { body = o }) i) k)
+pub body_answer : {S B : Type 0} (made : Made S B) (c : ℕ) → has (seven (Unit {0})) c ≡ true → (c ≡ 0x70 → ⊥) → (c ≡ 0x71 → ⊥)
+    → (c ≡ 0x72 → ⊥) → (c ≡ 0x73 → ⊥) → (c ≡ 0x74 → ⊥) → (c ≡ 0x78 → ⊥) → (m x : Fields (seven S)) (st : State)
+    (answer : Result (Unit {0}) Error) (b : State) → PutsAt (seven S) (readings_of made.group) 5 m x st answer b
+    → AnswersGroup (seven S) (readings_of made.group) c m x st answer b
+body_answer {S} made c among h d n p a f m x st answer b puts =
+    put_answer (seven S) (readings_of made.group) (seven_apart S) 5 c m x st answer b (at_body c among h d n p a f) puts

@@ -7,42 +7,47 @@ use Rattle.amqp_batches.specs.laws.State.{alike_rest}
 use Rattle.amqp_batches.specs.Walk.{Steps, Walked}
 use Rattle.amqp_batches.specs.WalkReading.{walk_reading}
 use Rattle.amqp_messages.specs.declared.order.Order.TheVariants.{Any, Written}
+use Rattle.amqp_messages.specs.Kinds.{nothing, put}
 use Rattle.amqp_messages.specs.Groups.{Shape, Progress, GroupStep, AreAllRead}
 use Rattle.amqp_messages.specs.MessageWalk.{message_walk}
 
-module _ {M V : Type 0} (s : Shape M V) where
+module _ {V : Type 0} (s : Shape V) where
+  abbrev M : Type 0
+  M = Progress s.kinds
+
   -- the same was read, and there may still be as many groups
-  record Loosened (n : ℕ) (st : State) (m : Progress M) (x : Progress M) (b : State) : Type 0 where
-    to : Progress M
+  record Loosened (n : ℕ) (st : State) (m : M) (x : M) (b : State) : Type 0 where
+    to : M
     same : to.part ≡ x.part
     steps : Steps (message_walk Any s) n st m to b
 
-  loosened : (n : ℕ) (st : State) (m p x : Progress M) (b : State) → p.part ≡ m.part → m.left ≤ p.left
+  loosened : (n : ℕ) (st : State) (m p x : M) (b : State) → p.part ≡ m.part → m.left ≤ p.left
       → Steps (message_walk Written s) n st m x b → Loosened n st p x b
   loosened zero st m p x b e l (i, j) =
-      record { to = p; same = e ∙ ap (λ (z : Progress M). z.part) (sym i); steps = (refl, j) }
+      record { to = p; same = e ∙ ap (λ (z : M). z.part) (sym i); steps = (refl, j) }
   loosened (suc n) st m p x b e l (y, mid, h, k) =
       let place = h.in_place in
-      let q : Progress M = record { left = p.left - 1; part = y.part } in
+      let q : M = record { left = p.left - 1; part = y.part } in
       let r = loosened n mid y q x b refl (omega (arith, l, place, h.next)) k in
-      let g = h.fills in
       let step : GroupStep Any s st p q mid = record {
         top = h.top;
         code = h.code;
         ahead = h.ahead;
         in_place = omega (arith, l, place);
         next = refl;
-        fills = record { group = g.group; read = g.read; is = g.is ∙ ap ((s.kind_of h.code).put g.group) (sym e) };
+        group = h.group;
+        read = h.read;
+        is = h.is ∙ ap (put s.kinds h.group) (sym e);
       } in
       record { to = r.to; same = r.same; steps = (q, mid, step, r.steps) }
 
-  all_read : (m : Progress M) (rest : List ℕ) (p : Progress M) → AreAllRead Written s m rest → AreAllRead Any s p rest
+  all_read : (m : M) (rest : List ℕ) (p : M) → AreAllRead Written s m rest → AreAllRead Any s p rest
   all_read m rest p (inl f) = absurd f
   all_read m rest p (inr e) = inr e
 
   pub strict_is_any : (st : State) (v : V) (b : State) → Walked (message_walk Written s) st v b → Walked (message_walk Any s) st v b
   strict_is_any st v b h =
-      let blank : Progress M = record { left = 7; part = s.blank } in
+      let blank : M = record { left = 7; part = nothing s.kinds } in
       let r = loosened h.number st blank blank h.part h.last refl (omega arith) h.steps in
       record {
         top = h.top;
@@ -51,7 +56,7 @@ module _ {M V : Type 0} (s : Shape M V) where
         last = h.last;
         steps = r.steps;
         done = all_read h.part h.last.rest r.to h.done;
-        made = subst (λ m. s.finish m v) (sym r.same) h.made;
+        made = subst (λ m. s.ending.made m v) (sym r.same) h.made;
         left = h.left;
       }
 

@@ -3,13 +3,13 @@ use Rattle.std.proofs.Common.{◌≡◌, ℕ, List, length, subst}
 use Rattle.amqp_wire.specs.declared.limits.Limits.{Limits}
 use Rattle.amqp_model.specs.Term.{Term}
 use Rattle.amqp_codec.specs.Reading.{Reading, BeginsWithin}
-use Rattle.amqp_read_write.specs.Rewritten.{IsRewrittenWithin, IsReadAgain, IsOneText, IsOfNoOther}
+use Rattle.amqp_read_write.specs.Rewritten.{IsRewrittenWithin, IsReadAgain, IsOneText, IsOfNoOther, IsUnchanged}
 use Rattle.amqp_batches.specs.WalkReading.{walk_reading, reading_via}
 use Rattle.amqp_bodies.specs.Bodies.{Made}
 use Rattle.amqp_messages.specs.declared.order.Order.TheVariants.{Any, Written}
 use Rattle.amqp_messages.specs.declared.strict.Strict.{Strict}
 use Rattle.amqp_messages.specs.MessageWalk.{message_walk}
-use Rattle.amqp_messages.specs.MessageTypes.{message_of, message_in}
+use Rattle.amqp_messages.specs.Messages.{message_of, message_in}
 use Rattle.amqp_messages.proofs.OrderLaws.{strict_begins, strict_whole}
 
 module _ {S B : Type 0} (made : Made S B) where
@@ -34,13 +34,17 @@ module _ {S B : Type 0} (made : Made S B) where
     pub text_of_all : IsRewrittenWithin limits strict canons input text (length input)
     text_of_all = subst (IsRewrittenWithin limits strict canons input text) is_all h
 
-    pub again_of_all : {follows : List ℕ → Type 0} {again : Strict B → Strict B} {kept : Strict B → Type 0}
-        → IsReadAgain strict follows again kept input text n → IsReadAgain strict follows again kept input text (length input)
-    again_of_all {follows} {again} {kept} k = subst (IsReadAgain strict follows again kept input text) is_all k
+    pub again_of_all : {follows : List ℕ → Type 0} {again : Strict B → Strict B} {kept lasts : Strict B → Type 0}
+        → IsReadAgain strict follows again kept lasts input text n → IsReadAgain strict follows again kept lasts input text (length input)
+    again_of_all {follows} {again} {kept} {lasts} k = subst (IsReadAgain strict follows again kept lasts input text) is_all k
 
     pub one_of_all : IsOneText strict canons input text n → IsOneText strict canons input text (length input)
     one_of_all k = subst (λ m. IsOneText strict canons input text m) is_all k
 
-    pub other_of_all : {kept : Strict B → Type 0} → IsOfNoOther strict canons kept input text n
-        → IsOfNoOther strict canons kept input text (length input)
-    other_of_all {kept} k = subst (λ m. IsOfNoOther strict canons kept input text m) is_all k
+    pub other_of_all : {kept lasts : Strict B → Type 0} → IsOfNoOther strict canons kept lasts input text n
+        → IsOfNoOther strict canons kept lasts input text (length input)
+    other_of_all {kept} {lasts} k = subst (λ m. IsOfNoOther strict canons kept lasts input text m) is_all k
+
+    pub unchanged_of_all : {lasts : Strict B → Type 0} → IsUnchanged strict canons lasts input text n
+        → IsUnchanged strict canons lasts input text (length input)
+    unchanged_of_all {lasts} k = subst (λ m. IsUnchanged strict canons lasts input text m) is_all k

@@ -1,6 +1,7 @@
 -- How many sections a message has, which is the last, which messages differ in the body alone, and which have no other section (Part 3,
 -- section 3.2).
-use Rattle.std.specs.Prelude.{◌≡◌, ℕ, ◌+◌, Option, Some, None}
+use Rattle.std.specs.Prelude.{◌≡◌, ℕ, ◌+◌, List, length, Option, Some, None}
+use Rattle.amqp_codec.specs.Reading.{Reading, BeginsWith}
 use Rattle.amqp_messages.specs.declared.message.Message.{Message}
 
 abbrev pub one_if_there : {A : Type 0} → Option A → ℕ
@@ -38,3 +39,7 @@ only_body b = record {
   body = b;
   footer = None;
 }
+
+-- All of the bytes are read as the value.
+abbrev pub IsReadWhole : {T : Type 0} → Reading T → List ℕ → T → Type 0
+IsReadWhole r text v = BeginsWith r text v (length text)

@@ -1,4 +1,7 @@
+pub mod KindsReading
+pub mod KindsSpelled
+pub mod KindsRewriting
 pub mod MessageLimits
-pub mod MessageRewriting
-pub mod KindLimits
+pub mod MessageSpelled
 pub mod StrictAgain
+pub mod SectionCodes

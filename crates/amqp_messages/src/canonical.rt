@@ -2,6 +2,7 @@
 ghost use Rattle.std.specs.Prelude.{◌≡◌, [], false};
 ghost use Rattle.amqp_annotations.specs.AnnotationsType.{annotations_agreement};
 ghost use Rattle.amqp_map_sections.specs.SimpleMaps.{simple_map_agreement};
+ghost use Rattle.amqp_bodies.specs.ReadsAs.{read_as};
 ghost use Rattle.amqp_messages.specs.declared.order.Order.TheVariants.{Any};
 ghost use Rattle.amqp_messages.specs.MessageAgain.{message_again, message_is_rewritten};
 
@@ -21,5 +22,5 @@ impl<B: CanonicalBody> Canonical for Message<B> {
 
     ghost is_least = { false };
 
-    ghost rewrites = { message_is_rewritten annotations_agreement simple_map_agreement Any B.is_text };
+    ghost rewrites = { message_is_rewritten annotations_agreement simple_map_agreement B.is_text (read_as B.group_is B.Body.is_read) Any };
 }

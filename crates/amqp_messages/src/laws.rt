@@ -1,11 +1,17 @@
 //! What holds for messages in addition to the laws of every type. The functions do nothing; their contracts are proved.
-ghost use Rattle.std.specs.Prelude.{◌≡◌, ◌↔◌, ℕ, List, IsTrue, take};
+ghost use Rattle.std.specs.Prelude.{◌≡◌, ◌↔◌, ◌⊎◌, ℕ, List, [], IsTrue, take};
+ghost use Rattle.amqp_wire.specs.declared.error.Error.TheVariants.{EmptyBody};
+ghost use Rattle.amqp_encoder.specs.Passes.{row_text};
+ghost use Rattle.amqp_codec.specs.Written.{AreWritable};
 ghost use Rattle.amqp_wire.specs.declared.limits.Limits.{Limits};
 ghost use Rattle.amqp_wire.specs.Limits.{limit_of};
 ghost use Rattle.amqp_decoder.specs.State.{Has};
-ghost use Rattle.amqp_codec.specs.Reading.{BeginsWithin, BeginsWith};
+ghost use Rattle.amqp_codec.specs.Reading.{BeginsWithin, BeginsWith, IsUnreadable};
 ghost use Rattle.amqp_batches.specs.Bounds.{AreAllowed};
-ghost use Rattle.amqp_messages.specs.Builders.{built};
+ghost use Rattle.amqp_messages.specs.Builders.{built, with_body};
+ghost use Rattle.amqp_messages.specs.Messages.{as_strict};
+ghost use Rattle.amqp_messages.specs.MessageAgain.{message_again};
+ghost use Rattle.amqp_messages.specs.MessageCalls.{IsReadWhole};
 ghost use Rattle.amqp_messages.specs.MessageCalls.{only_body};
 ghost use Rattle.amqp_messages.specs.declared.builder.Builder.{Builder as BuilderOf};
 ghost use Rattle.amqp_messages.specs.declared.message.Message.{Message as MessageOf};
@@ -13,8 +19,8 @@ ghost use Rattle.amqp_messages.specs.declared.message.Message.{Message as Messag
 use crate::builder::Builder;
 use crate::message::Message;
 use crate::strict::Strict;
-use amqp_bodies::FromBody;
-use amqp_codec::Deserialize;
+use amqp_bodies::{CanonicalBody, FromBody};
+use amqp_codec::{Deserialize, Serialize};
 use amqp_map_sections::{ApplicationProperties, DeliveryAnnotations, Footer, MessageAnnotations};
 use amqp_message_headers::laws::copies_of_options_are_equal;
 use amqp_message_headers::{Header, Properties};
@@ -31,6 +37,36 @@ pub fn limits_bound_messages<B: FromBody>()
         → BeginsWithin limits ⟦<Strict<B> as Deserialize>⟧.reading input message n
         ↔ (BeginsWith ⟦<Strict<B> as Deserialize>⟧.reading input message n × Has (limit_of limits.bytes) n
         × AreAllowed limits (take n input)) }
+{}
+
+/// The text of the body of a message that was read is read again (`lasts`), or the body takes the place of an absent one.
+pub fn bodies_last<B: CanonicalBody>()
+    ensures any { (input : List ℕ) (message : MessageOf B) (n : ℕ) → BeginsWith ⟦<Message<B> as Deserialize>⟧.reading input message n
+        → B.lasts message.body ⊎ B.made.empty message.body }
+    ensures strict { (input : List ℕ) (message : MessageOf B) (n : ℕ)
+        → BeginsWith ⟦<Strict<B> as Deserialize>⟧.reading input (as_strict message) n
+        → B.lasts message.body ⊎ B.made.empty message.body }
+{}
+
+/// A body that is written as no section, as an empty batch is, isn't in the message's text. In any order and strictly, the text is read with
+/// what takes the place of an absent body, or refused with `EmptyBody` if nothing does.
+pub fn bodies_without_sections_are_absent<B: CanonicalBody>()
+    ensures any { (message : MessageOf B) (body : B) → ⟦<Message<B> as Serialize>⟧.writing.is_value message
+        → AreWritable (⟦<Message<B> as Serialize>⟧.writing.canons message) → B.writing.canons message.body ≡ [] → B.made.empty body
+        → IsReadWhole ⟦<Message<B> as Deserialize>⟧.reading (row_text (⟦<Message<B> as Serialize>⟧.writing.canons message))
+        (with_body body (message_again B.again message)) }
+    ensures strict { (message : MessageOf B) (body : B) → ⟦<Message<B> as Serialize>⟧.writing.is_value message
+        → AreWritable (⟦<Message<B> as Serialize>⟧.writing.canons message) → B.writing.canons message.body ≡ [] → B.made.empty body
+        → IsReadWhole ⟦<Strict<B> as Deserialize>⟧.reading (row_text (⟦<Message<B> as Serialize>⟧.writing.canons message))
+        (as_strict (with_body body (message_again B.again message))) }
+    ensures refused { (message : MessageOf B) → ⟦<Message<B> as Serialize>⟧.writing.is_value message
+        → AreWritable (⟦<Message<B> as Serialize>⟧.writing.canons message) → B.writing.canons message.body ≡ []
+        → ((body : B) → B.made.empty body → ⊥)
+        → IsUnreadable ⟦<Message<B> as Deserialize>⟧.reading (row_text (⟦<Message<B> as Serialize>⟧.writing.canons message)) EmptyBody }
+    ensures strictly_refused { (message : MessageOf B) → ⟦<Message<B> as Serialize>⟧.writing.is_value message
+        → AreWritable (⟦<Message<B> as Serialize>⟧.writing.canons message) → B.writing.canons message.body ≡ []
+        → ((body : B) → B.made.empty body → ⊥)
+        → IsUnreadable ⟦<Strict<B> as Deserialize>⟧.reading (row_text (⟦<Message<B> as Serialize>⟧.writing.canons message)) EmptyBody }
 {}
 
 /// By default a message has only its body, which is the default of its type.

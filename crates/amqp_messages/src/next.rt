@@ -4,7 +4,8 @@ ghost use Rattle.amqp_wire.specs.Sources.{Tells};
 ghost use Rattle.amqp_decoder.specs.Places.{AnswersAt};
 ghost use Rattle.amqp_decoder.specs.Steps.{Began, Passes};
 ghost use Rattle.amqp_messages.specs.Next.{FindsNext, NextFault};
-ghost use Rattle.amqp_messages.specs.Orders.{behind, further, IsFull};
+ghost use Rattle.amqp_messages.specs.MessageKinds.{behind_section};
+ghost use Rattle.amqp_messages.specs.Orders.{further, IsFull};
 
 use crate::order::Order;
 use amqp_batches::no_section;
@@ -14,11 +15,15 @@ use std::alloc::Global;
 
 // How many kinds of sections come after that with this code in the standard's order.
 fn behind(code: u8) -> u8
-    ensures { result ≡ behind code }
+    ensures { result ≡ behind_section code }
 {
     match code {
-        0x00..=section_code::APPLICATION_PROPERTIES => section_code::DATA + 1 - code,
-        section_code::DATA..=section_code::AMQP_VALUE => 1,
+        section_code::HEADER => 6,
+        section_code::DELIVERY_ANNOTATIONS => 5,
+        section_code::MESSAGE_ANNOTATIONS => 4,
+        section_code::PROPERTIES => 3,
+        section_code::APPLICATION_PROPERTIES => 2,
+        section_code::DATA | section_code::AMQP_SEQUENCE | section_code::AMQP_VALUE => 1,
         _ => 0,
     }
 }
@@ -37,7 +42,7 @@ impl Order {
 
     // How many groups may still follow one whose section has this code.
     pub(crate) fn further(self, left: u8, code: u8) -> u8
-        ensures { result ≡ further self left code }
+        ensures { result ≡ further self left (behind_section code) }
     {
         match self {
             Order::Any => left.saturating_sub(1),
@@ -58,17 +63,17 @@ pub(crate) fn next_section<R: ByteSource>(
     ensures read { Tells R.remaining → AnswersAt true (FindsNext order left) (NextFault order left) decoder.old result decoder.new }
     ensures tries { Passes true decoder.old result decoder.new }
     ensures began { OnOk result ((IsFull order left → ⊥) → Began decoder.old decoder.new) }
-    ensures fewer { IfOk result (λ found. IfSome found (λ code. further order left code < left)) }
+    ensures fewer { IfOk result (λ found. IfSome found (λ code. further order left (behind_section code) < left)) }
 {
     let full = order.is_full(left);
     if full {
         return Ok(None);
     }
-    let ended = decoder.at_end()?;
-    if ended {
-        return Ok(None);
-    }
     let Some(code) = decoder.peek_section()? else {
+        let ended = decoder.at_end()?;
+        if ended {
+            return Ok(None);
+        }
         return Err(no_section(decoder, alloc));
     };
     if order.further(left, code) >= left {

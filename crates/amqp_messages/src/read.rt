@@ -5,8 +5,12 @@ ghost use Rattle.amqp_decoder.specs.Steps.{Tries};
 ghost use Rattle.std.specs.Prelude.{◌≡◌, ◌⊎◌, IfOk, IfErr, true};
 ghost use Rattle.amqp_batches.specs.Walk.{Walked, WalkFault};
 ghost use Rattle.amqp_batches.specs.WalkReading.{walk_reading};
+ghost use Rattle.amqp_messages.specs.KindsReading.{has};
 ghost use Rattle.amqp_messages.specs.MessageWalk.{message_walk};
-ghost use Rattle.amqp_messages.specs.MessageTypes.{message_of, AnswersPut, AnswersGroup, no_groups};
+ghost use Rattle.amqp_messages.specs.Kinds.{nothing};
+ghost use Rattle.amqp_messages.specs.MessageKinds.{seven, IsMadeOf};
+ghost use Rattle.amqp_messages.specs.Messages.{readings_of, fields_in, IsUnmade, message_of};
+ghost use Rattle.amqp_messages.specs.GroupAnswers.{AnswersPut, AnswersGroup};
 ghost use Rattle.amqp_codec.specs.TermReading.{reading_of};
 ghost use Rattle.amqp_wire.specs.declared.error.Error.TheVariants.{Memory};
 ghost use Rattle.amqp_messages.specs.declared.order.Order.TheVariants.{Any};
@@ -63,7 +67,7 @@ fn put_body<B: FromBody, R: ByteSource>(
 impl<S: Drop> Groups<S> {
     // Nothing was read.
     fn new() -> Groups<S>
-        ensures { result ≡ no_groups }
+        ensures { fields_in result ≡ nothing (seven S) }
     {
         Groups {
             header: None,
@@ -83,7 +87,8 @@ impl<S: Drop> Groups<S> {
         decoder: &mut Decoder<R>,
         alloc: Global,
     ) -> Result<(), Error>
-        ensures read { Tells R.remaining → AnswersGroup ((message_of B.made).kind_of code) self.old self.new decoder.old result decoder.new }
+        ensures read { Tells R.remaining → has (seven S) code ≡ true → AnswersGroup (seven S) (readings_of B.made.group) code (fields_in self.old)
+            (fields_in self.new) decoder.old result decoder.new }
         ensures tries { Tries true decoder.old result decoder.new }
     {
         match code {
@@ -111,8 +116,8 @@ impl<S: Drop> Groups<S> {
 
     // The message, or `EmptyBody` if there is no body and no value takes its place.
     fn finish<B: FromBody<Body = S>>(self, alloc: Global) -> Result<Message<B>, Error>
-        ensures made { IfOk result (λ v. (message_of B.made).finish self v) }
-        ensures refused { IfErr result (λ e. (e ≡ Memory) ⊎ (message_of B.made).unfinished self e) }
+        ensures made { IfOk result (λ v. IsMadeOf B.made (fields_in self) v) }
+        ensures refused { IfErr result (λ e. (e ≡ Memory) ⊎ IsUnmade B.made (fields_in self) e) }
     {
         let Groups {
             header,

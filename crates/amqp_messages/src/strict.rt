@@ -11,9 +11,10 @@ ghost use Rattle.amqp_read_write.specs.Rewritten.{IsRewrittenWithin, IsUnwritten
 ghost use Rattle.amqp_annotations.specs.AnnotationsType.{annotations_agreement};
 ghost use Rattle.amqp_map_sections.specs.SimpleMaps.{simple_map_agreement};
 ghost use Rattle.amqp_batches.specs.WalkReading.{walk_reading, reading_via};
+ghost use Rattle.amqp_bodies.specs.ReadsAs.{read_as};
 ghost use Rattle.amqp_messages.specs.declared.order.Order.TheVariants.{Written};
 ghost use Rattle.amqp_messages.specs.MessageAgain.{message_again};
-ghost use Rattle.amqp_messages.specs.MessageTypes.{message_of, message_in, as_strict};
+ghost use Rattle.amqp_messages.specs.Messages.{message_of, message_in, as_strict};
 ghost use Rattle.amqp_messages.specs.MessageWalk.{message_walk};
 ghost use Rattle.amqp_messages.specs.laws.StrictAgain.{strict_is_rewritten};
 
@@ -71,7 +72,7 @@ impl<B: CanonicalBody> Canonical for Strict<B> {
 
     ghost is_least = { false };
 
-    ghost rewrites = { strict_is_rewritten annotations_agreement simple_map_agreement B.is_text };
+    ghost rewrites = { strict_is_rewritten annotations_agreement simple_map_agreement B.is_text (read_as B.group_is B.Body.is_read) };
 }
 
 /// Reads the message that the reader's bytes are, strictly. Its sections are in the standard's order: header, delivery annotations, message
@@ -146,13 +147,14 @@ pub fn canonical_text_strict<B: CanonicalBody>(
     ensures text { IfOk result (λ text. IsRewritten ⟦<Strict<B> as Deserialize>⟧.reading ⟦<Strict<B> as Serialize>⟧.writing.canons
         input.now text.items (length input.now)) }
     ensures read_again { IfOk result (λ text. IsReadAgain ⟦<Strict<B> as Deserialize>⟧.reading ⟦<Strict<B> as Canonical>⟧.follows
-        ⟦<Strict<B> as Canonical>⟧.again ⟦<Strict<B> as Canonical>⟧.kept input.now text.items (length input.now)) }
+        ⟦<Strict<B> as Canonical>⟧.again ⟦<Strict<B> as Canonical>⟧.kept ⟦<Strict<B> as Canonical>⟧.lasts input.now text.items
+        (length input.now)) }
     ensures one_text { IfOk result (λ text. IsOneText ⟦<Strict<B> as Deserialize>⟧.reading ⟦<Strict<B> as Serialize>⟧.writing.canons
         input.now text.items (length input.now)) }
     ensures no_other { IfOk result (λ text. IsOfNoOther ⟦<Strict<B> as Deserialize>⟧.reading ⟦<Strict<B> as Serialize>⟧.writing.canons
-        ⟦<Strict<B> as Canonical>⟧.kept input.now text.items (length input.now)) }
+        ⟦<Strict<B> as Canonical>⟧.kept ⟦<Strict<B> as Canonical>⟧.lasts input.now text.items (length input.now)) }
     ensures unchanged { IfOk result (λ text. IsUnchanged ⟦<Strict<B> as Deserialize>⟧.reading ⟦<Strict<B> as Serialize>⟧.writing.canons
-        text.items) }
+        ⟦<Strict<B> as Canonical>⟧.lasts input.now text.items (length input.now)) }
     ensures refused { IfErr result (λ e. (e ≡ Memory) ⊎ (IsUnreadable ⟦<Strict<B> as Deserialize>⟧.reading input.now e
         ⊎ IsUnwritten ⟦<Strict<B> as Deserialize>⟧.reading ⟦<Strict<B> as Serialize>⟧.writing.canons input.now e)) }
     ensures unfailing { IfErr result (λ e. IsReadError e → ⊥) }
@@ -186,13 +188,14 @@ pub fn canonical_text_strict_within<B: CanonicalBody>(
     ensures text { IfOk result (λ text. IsRewrittenWithin limits.now ⟦<Strict<B> as Deserialize>⟧.reading
         ⟦<Strict<B> as Serialize>⟧.writing.canons input.now text.items (length input.now)) }
     ensures read_again { IfOk result (λ text. IsReadAgain ⟦<Strict<B> as Deserialize>⟧.reading ⟦<Strict<B> as Canonical>⟧.follows
-        ⟦<Strict<B> as Canonical>⟧.again ⟦<Strict<B> as Canonical>⟧.kept input.now text.items (length input.now)) }
+        ⟦<Strict<B> as Canonical>⟧.again ⟦<Strict<B> as Canonical>⟧.kept ⟦<Strict<B> as Canonical>⟧.lasts input.now text.items
+        (length input.now)) }
     ensures one_text { IfOk result (λ text. IsOneText ⟦<Strict<B> as Deserialize>⟧.reading ⟦<Strict<B> as Serialize>⟧.writing.canons
         input.now text.items (length input.now)) }
     ensures no_other { IfOk result (λ text. IsOfNoOther ⟦<Strict<B> as Deserialize>⟧.reading ⟦<Strict<B> as Serialize>⟧.writing.canons
-        ⟦<Strict<B> as Canonical>⟧.kept input.now text.items (length input.now)) }
+        ⟦<Strict<B> as Canonical>⟧.kept ⟦<Strict<B> as Canonical>⟧.lasts input.now text.items (length input.now)) }
     ensures unchanged { IfOk result (λ text. IsUnchanged ⟦<Strict<B> as Deserialize>⟧.reading ⟦<Strict<B> as Serialize>⟧.writing.canons
-        text.items) }
+        ⟦<Strict<B> as Canonical>⟧.lasts input.now text.items (length input.now)) }
     ensures refused { IfErr result (λ e. (e ≡ Memory) ⊎ (IsUnreadableWithin limits.now ⟦<Strict<B> as Deserialize>⟧.reading input.now e
         ⊎ IsUnwrittenWithin limits.now ⟦<Strict<B> as Deserialize>⟧.reading ⟦<Strict<B> as Serialize>⟧.writing.canons input.now e)) }
     ensures unfailing { IfErr result (λ e. IsReadError e → ⊥) }

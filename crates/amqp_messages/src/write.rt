@@ -1,7 +1,7 @@
 //! Writing messages: the sections that are present, in the standard's order (Part 3, section 3.2).
 ghost use Rattle.std.specs.Prelude.{IfSome};
 ghost use Rattle.amqp_codec.specs.Written.{WritesTerms};
-ghost use Rattle.amqp_messages.specs.Entries.{optional};
+ghost use Rattle.amqp_messages.specs.KindsWriting.{optional};
 ghost use Rattle.amqp_messages.specs.MessageWriting.{message_writing};
 
 use crate::message::Message;
@@ -35,9 +35,19 @@ fn some_in_type<T: Serialize>(section: &Option<T>)
 /// Writes the sections in the standard's order: header, delivery annotations, message annotations, properties, application properties,
 /// body, footer.
 impl<B: SerializableBody> Serialize for Message<B> {
-    ghost writing = { message_writing ⟦<Header as Serialize>⟧.writing ⟦<DeliveryAnnotations as Serialize>⟧.writing
-        ⟦<MessageAnnotations as Serialize>⟧.writing ⟦<Properties as Serialize>⟧.writing
-        ⟦<ApplicationProperties as Serialize>⟧.writing ⟦<Footer as Serialize>⟧.writing B.writing };
+    ghost writing = { message_writing (
+      ⟦<Header as Serialize>⟧.writing,
+      (
+        ⟦<DeliveryAnnotations as Serialize>⟧.writing,
+        (
+          ⟦<MessageAnnotations as Serialize>⟧.writing,
+          (
+            ⟦<Properties as Serialize>⟧.writing,
+            (⟦<ApplicationProperties as Serialize>⟧.writing, (B.writing, (⟦<Footer as Serialize>⟧.writing, tt))),
+          ),
+        ),
+      ),
+    ) };
 
     fn serialize<P: Pass>(&self, encoder: &mut Encoder<P>) -> Result<(), Error> {
         write_some(&self.header, encoder)?;

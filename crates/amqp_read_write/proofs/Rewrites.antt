@@ -17,12 +17,12 @@ use Rattle.amqp_codec.specs.Written.{AreWritable, AreUnwritable}
 
 module _ {T : Type 0} {r : Reading T} {canons : T → List Term} {is_value : T → Type 0} {follows : List ℕ → Type 0} {again : T → T}
     {kept lasts : T → Type 0} {is_least : Bool} (laws : Rewriting r canons is_value follows again kept lasts is_least) where
-  own_text : (input : List ℕ) (v : T) (n : ℕ) → BeginsWith r input v n → AreWritable (canons v)
+  own_text : (input : List ℕ) (v : T) (n : ℕ) → BeginsWith r input v n → lasts v → AreWritable (canons v)
       → BeginsWith r (row_text (canons v)) (again v) (length (row_text (canons v)))
-  own_text input v n h f =
+  own_text input v n h l f =
       let text = row_text (canons v) in
       subst (λ b. BeginsWith r b (again v) (length text)) (append-nil text)
-      (laws.reads_again v [] (laws.value input v n h) (laws.lasting input v n h) f laws.alone)
+      (laws.reads_again v [] (laws.value input v n h) l f laws.alone)
 
   pub every_text : AreReadAgain r canons is_value follows again lasts
   every_text = record { read = laws.reads_again; text = laws.text_again }
@@ -40,32 +40,32 @@ module _ {T : Type 0} {r : Reading T} {canons : T → List Term} {is_value : T �
     writable : (v : T) → BeginsWith r input v n → AreWritable (canons v)
     writable v k = subst AreWritable (canons_are v k) h.writable
 
-    pub read_again : IsReadAgain r follows again kept input text n
+    pub read_again : IsReadAgain r follows again kept lasts input text n
     read_again = record {
-      read = λ v more k f. subst (λ b. BeginsWith r (b ++ more) (again v) (length b)) (sym (text_is v k))
-          (laws.reads_again v more (laws.value input v n k) (laws.lasting input v n k) (writable v k) f);
+      read = λ v more k l f. subst (λ b. BeginsWith r (b ++ more) (again v) (length b)) (sym (text_is v k))
+          (laws.reads_again v more (laws.value input v n k) l (writable v k) f);
       itself = λ v k s. laws.own input v n k s;
     }
 
     pub one_text : IsOneText r canons input text n
     one_text v w other m k l s = ap row_text (sym (laws.canons_same v w s)) ∙ sym (text_is v k)
 
-    pub no_other : IsOfNoOther r canons kept input text n
-    no_other v w other m k l kv kw f e =
-        let a = own_text input v n k (writable v k) in
-        let b = subst (λ x. BeginsWith r x (again w) (length x)) (e ∙ text_is v k) (own_text other w m l f) in
+    pub no_other : IsOfNoOther r canons kept lasts input text n
+    no_other v w other m k l kv kw lv lw f e =
+        let a = own_text input v n k lv (writable v k) in
+        let b = subst (λ x. BeginsWith r x (again w) (length x)) (e ∙ text_is v k) (own_text other w m l lw f) in
         let s = (read_one greatest r (row_text (canons v)) (again v) (again w) (length (row_text (canons v)))
         (length (row_text (canons v))) a b).0 in
         r.same_trans v (again v) w (r.same_sym (again v) v (laws.own input v n k kv))
         (r.same_trans (again v) (again w) w s (laws.own other w m l kw))
 
-    pub unchanged : IsUnchanged r canons text
-    unchanged w m k =
-        let v = h.value in
-        let i = laws.value input v n h.read in
-        let a = subst (λ x. BeginsWith r x (again v) (length x)) (sym h.text_is) (own_text input v n h.read h.writable) in
-        let o = read_one greatest r text w (again v) m (length text) k a in
-        (ap row_text (laws.canons_same w (again v) o.0) ∙ (laws.text_again v i h.writable ∙ sym h.text_is), o.1)
+    pub unchanged : IsUnchanged r canons lasts input text n
+    unchanged v w m k l read =
+        let i = laws.value input v n k in
+        let f = writable v k in
+        let a = subst (λ x. BeginsWith r x (again v) (length x)) (sym (text_is v k)) (own_text input v n k l f) in
+        let o = read_one greatest r text w (again v) m (length text) read a in
+        (ap row_text (laws.canons_same w (again v) o.0) ∙ (laws.text_again v i f ∙ sym (text_is v k)), o.1)
 
     pub shortest : is_least ≡ true → IsShortest r canons input text n
     shortest l v w other m k j s bytes none = subst (λ b. length b ≤ m) (one_text v w other m k j s) (laws.least l other w m bytes none j)

@@ -24,10 +24,11 @@ pub record IsRewrittenWithin {T : Type 0} (limits : Limits) (r : Reading T) (can
 abbrev pub IsRewritten : {T : Type 0} → Reading T → (T → List Term) → List ℕ → List ℕ → ℕ → Type 0
 IsRewritten r canons input text n = IsRewrittenWithin greatest r canons input text n
 
--- Before whatever may follow, the text is read to its end, as the value that the first n bytes of the input are read as.
-pub record IsReadAgain {T : Type 0} (r : Reading T) (follows : List ℕ → Type 0) (again : T → T) (kept : T → Type 0)
+-- Before whatever may follow, the text is read to its end, as the value that the first n bytes of the input are read as, if that lasts.
+pub record IsReadAgain {T : Type 0} (r : Reading T) (follows : List ℕ → Type 0) (again : T → T) (kept lasts : T → Type 0)
     (input text : List ℕ) (n : ℕ) : Type 0 where
-  pub read : (v : T) (more : List ℕ) → BeginsWith r input v n → follows more → BeginsWith r (text ++ more) (again v) (length text)
+  pub read : (v : T) (more : List ℕ) → BeginsWith r input v n → lasts v → follows more
+      → BeginsWith r (text ++ more) (again v) (length text)
   pub itself : (v : T) → BeginsWith r input v n → kept v → r.same (again v) v
 
 -- It is the canonical text of that value however any input spells it.
@@ -35,15 +36,16 @@ abbrev pub IsOneText : {T : Type 0} → Reading T → (T → List Term) → List
 IsOneText {T} r canons input text n = (v w : T) (other : List ℕ) (m : ℕ) → BeginsWith r input v n → BeginsWith r other w m → r.same v w
     → row_text (canons w) ≡ text
 
--- It is the canonical text of no other value.
-abbrev pub IsOfNoOther : {T : Type 0} → Reading T → (T → List Term) → (T → Type 0) → List ℕ → List ℕ → ℕ → Type 0
-IsOfNoOther {T} r canons kept input text n =
-    (v w : T) (other : List ℕ) (m : ℕ) → BeginsWith r input v n → BeginsWith r other w m → kept v → kept w → AreWritable (canons w)
-    → row_text (canons w) ≡ text → r.same v w
+-- It is the canonical text of no other value that lasts.
+abbrev pub IsOfNoOther : {T : Type 0} → Reading T → (T → List Term) → (T → Type 0) → (T → Type 0) → List ℕ → List ℕ → ℕ → Type 0
+IsOfNoOther {T} r canons kept lasts input text n =
+    (v w : T) (other : List ℕ) (m : ℕ) → BeginsWith r input v n → BeginsWith r other w m → kept v → kept w → lasts v → lasts w
+    → AreWritable (canons w) → row_text (canons w) ≡ text → r.same v w
 
--- What it is read as has it as its canonical text.
-abbrev pub IsUnchanged : {T : Type 0} → Reading T → (T → List Term) → List ℕ → Type 0
-IsUnchanged {T} r canons text = (w : T) (m : ℕ) → BeginsWith r text w m → (row_text (canons w) ≡ text) × (m ≡ length text)
+-- If that value lasts, what the text is read as has it as its canonical text.
+abbrev pub IsUnchanged : {T : Type 0} → Reading T → (T → List Term) → (T → Type 0) → List ℕ → List ℕ → ℕ → Type 0
+IsUnchanged {T} r canons lasts input text n =
+    (v w : T) (m : ℕ) → BeginsWith r input v n → lasts v → BeginsWith r text w m → (row_text (canons w) ≡ text) × (m ≡ length text)
 
 -- No spelling of that value is shorter, where no array stands in its canonical terms.
 abbrev pub IsShortest : {T : Type 0} → Reading T → (T → List Term) → List ℕ → List ℕ → ℕ → Type 0

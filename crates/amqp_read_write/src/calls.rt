@@ -206,11 +206,11 @@ pub fn write_into<T: Serialize>(value: &T, room: &mut [u8], alloc: Global) -> Re
 /// An error is `Memory`, a fault of an input that begins with no value, or `TooLarge`. It is never `Read` or `Limit`.
 pub fn canonical_text<T: Canonical>(input: &[u8], alloc: Global) -> Result<(Vec<u8>, usize), Error>
     ensures text { IfOk result (λ r. IsRewritten T.reading T.writing.canons input.now r.0.items r.1) }
-    ensures read_again { IfOk result (λ r. IsReadAgain T.reading T.follows T.again T.kept input.now r.0.items r.1) }
+    ensures read_again { IfOk result (λ r. IsReadAgain T.reading T.follows T.again T.kept T.lasts input.now r.0.items r.1) }
     ensures one_text { IfOk result (λ r. IsOneText T.reading T.writing.canons input.now r.0.items r.1) }
-    ensures no_other { IfOk result (λ r. IsOfNoOther T.reading T.writing.canons T.kept input.now r.0.items r.1) }
+    ensures no_other { IfOk result (λ r. IsOfNoOther T.reading T.writing.canons T.kept T.lasts input.now r.0.items r.1) }
     ensures every_text { AreReadAgain T.reading T.writing.canons T.writing.is_value T.follows T.again T.lasts }
-    ensures unchanged { IfOk result (λ r. IsUnchanged T.reading T.writing.canons r.0.items) }
+    ensures unchanged { IfOk result (λ r. IsUnchanged T.reading T.writing.canons T.lasts input.now r.0.items r.1) }
     ensures shortest { T.is_least ≡ true → AreShortest T.reading T.writing.canons }
     ensures no_shorter { T.is_least ≡ true → IfOk result (λ r. IsShortest T.reading T.writing.canons input.now r.0.items r.1) }
     ensures refused { IfErr result (λ e.
@@ -236,10 +236,10 @@ pub fn canonical_text_within<T: Canonical>(
     alloc: Global,
 ) -> Result<(Vec<u8>, usize), Error>
     ensures text { IfOk result (λ r. IsRewrittenWithin limits.now T.reading T.writing.canons input.now r.0.items r.1) }
-    ensures read_again { IfOk result (λ r. IsReadAgain T.reading T.follows T.again T.kept input.now r.0.items r.1) }
+    ensures read_again { IfOk result (λ r. IsReadAgain T.reading T.follows T.again T.kept T.lasts input.now r.0.items r.1) }
     ensures one_text { IfOk result (λ r. IsOneText T.reading T.writing.canons input.now r.0.items r.1) }
-    ensures no_other { IfOk result (λ r. IsOfNoOther T.reading T.writing.canons T.kept input.now r.0.items r.1) }
-    ensures unchanged { IfOk result (λ r. IsUnchanged T.reading T.writing.canons r.0.items) }
+    ensures no_other { IfOk result (λ r. IsOfNoOther T.reading T.writing.canons T.kept T.lasts input.now r.0.items r.1) }
+    ensures unchanged { IfOk result (λ r. IsUnchanged T.reading T.writing.canons T.lasts input.now r.0.items r.1) }
     ensures no_shorter { T.is_least ≡ true
         → IfOk result (λ r. IsShortest T.reading T.writing.canons input.now r.0.items r.1) }
     ensures refused { IfErr result (λ e. (e ≡ Memory)

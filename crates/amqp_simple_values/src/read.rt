@@ -1,5 +1,6 @@
 //! How simple values are read: as values of any kind are, except lists, maps and arrays.
-ghost use Rattle.std.specs.Prelude.{◌≡◌};
+ghost use Rattle.std.specs.Prelude.{◌≡◌, Some};
+ghost use Rattle.amqp_simple_values.specs.declared.simple.SimpleValue.TheVariants.{Null};
 ghost use Rattle.amqp_simple_values.specs.Simple.{is_container};
 ghost use Rattle.amqp_simple_values.specs.SimpleType.{simple_type, simple_agreement};
 
@@ -20,6 +21,8 @@ fn is_container(kind: Kind) -> bool
 
 impl DeserializeTerm for SimpleValue {
     ghost term = { simple_type };
+
+    ghost meant_by_null = { Some Null };
 
     fn read_value<R: ByteSource>(
         decoder: &mut Decoder<R>,

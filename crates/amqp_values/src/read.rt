@@ -1,5 +1,5 @@
 //! How values of any kind are read: by the kind of what comes next. A value that holds others is read with them.
-ghost use Rattle.std.specs.Prelude.{◌≡◌, suc, true, IfOk, IfErr};
+ghost use Rattle.std.specs.Prelude.{◌≡◌, suc, true, Some, IfOk, IfErr};
 ghost use Rattle.amqp_model.specs.Term.{list, array};
 ghost use Rattle.amqp_wire.specs.declared.error.Error.TheVariants.{Depth};
 ghost use Rattle.amqp_wire.specs.Sources.{Tells};
@@ -10,6 +10,7 @@ ghost use Rattle.amqp_codec.specs.ItemsReading.{ReadsRow, RowFault};
 ghost use Rattle.amqp_codec.specs.MapReading.{ReadsPairsRow, PairsFault};
 ghost use Rattle.amqp_kinds.specs.declared.kind.Kind.TheVariants as kind;
 ghost use Rattle.amqp_kinds.specs.KindReading.{ReadsMember};
+ghost use Rattle.amqp_values.specs.declared.value.Value.TheVariants.{Null};
 ghost use Rattle.amqp_values.specs.ValueMembers.{ValueMeans, IsOfItems, MeansValues, IsDescribed, MeansDescribed, IsOfPairs, MeansPairs};
 ghost use Rattle.amqp_values.specs.Levels.{faults_of, faults_at, value_in, IsBounded, AnswersEach};
 ghost use Rattle.amqp_values.specs.ValueType.{value_type, value_agreement};
@@ -212,6 +213,8 @@ fn read_pairs<R: ByteSource>(
 
 impl DeserializeTerm for Value {
     ghost term = { value_type };
+
+    ghost meant_by_null = { Some Null };
 
     fn read_value<R: ByteSource>(decoder: &mut Decoder<R>, alloc: Global) -> Result<Value, Error> {
         decoder.room();

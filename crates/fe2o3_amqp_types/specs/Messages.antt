@@ -15,21 +15,21 @@ pub use Rattle.amqp_batches.specs.Transparent.{vec_in}
 pub use Rattle.amqp_batches.specs.Batches.{sections_in, batch_reading, batch_writing, batch_again}
 pub use Rattle.amqp_bodies.specs.Bodies.{Empties, Made, no_value, section_made, itself}
 pub use Rattle.amqp_bodies.specs.BodyTexts.{IsBodyText}
-pub use Rattle.amqp_bodies.specs.BodySections.{IsSome, IsReadAsBody, empty_body, body_made, value_made, plain_made}
+pub use Rattle.amqp_bodies.specs.BodySections.{IsSome, empty_body, body_made, value_made, plain_made}
 pub use Rattle.amqp_bodies.specs.Members.{body_value, body_data, body_sequences, data_left, sequences_left, data_lent, sequences_lent}
 pub use Rattle.amqp_bodies.specs.BodyRewriting.{NoBodyFollows}
-pub use Rattle.amqp_bodies.specs.EmptyBodies.{HasNoEmptyBatch}
-pub use Rattle.amqp_bodies.specs.NullBodies.{IsNull}
+pub use Rattle.amqp_bodies.specs.EmptyBodies.{IsReadAsBody, IsNullKnown}
+pub use Rattle.amqp_bodies.specs.NullBodies.{IsNull, AreSpelled}
 pub use Rattle.amqp_bodies.specs.PlainBodies.{null_value, none_value, lazy_null}
 pub use Rattle.amqp_batches.specs.Spellings.{Spells, Begins, IsReadExactly, IsTerm, Are, IsRun, IsBatch}
 pub use Rattle.amqp_batches.specs.SpellingFaults.{IsRefusedFor, IsNoTerm, IsRunFault, IsSectionFault}
 pub use Rattle.amqp_bodies.specs.SpelledBodies.{IsBody, IsThere}
 pub use Rattle.amqp_bodies.specs.SpelledFaults.{IsBodyFault}
-pub use Rattle.amqp_message_spellings.specs.Kinds.{Kind, Kinds, Group, IsGroup, Fields, put, behind, IsInAnyOrder, IsInOrder}
-pub use Rattle.amqp_message_spellings.specs.Messages.{seven, IsMadeOf, IsMessage, IsStrictMessage}
+pub use Rattle.amqp_messages.specs.Kinds.{Kinds, Group, IsGroup, Fields, put, behind, IsInAnyOrder, IsInOrder}
+pub use Rattle.amqp_messages.specs.MessageKinds.{seven, IsMadeOf, IsMessage, IsStrictMessage}
 pub use Rattle.amqp_message_spellings.specs.Faults.{IsBehindGroups}
 pub use Rattle.amqp_message_spellings.specs.Faults.{IsMessageFault, IsStrictFault}
-pub use Rattle.amqp_messages.specs.MessageTypes.{message_of, message_in, as_strict}
+pub use Rattle.amqp_messages.specs.Messages.{message_of, message_in, as_strict}
 pub use Rattle.amqp_messages.specs.MessageWalk.{message_walk}
 pub use Rattle.amqp_messages.specs.MessageAgain.{message_again}
 pub use Rattle.amqp_messages.specs.MessageCalls.{one_if_there, sections_of, last_code_of, HasSectionsOf, only_body}

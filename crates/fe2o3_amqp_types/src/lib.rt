@@ -128,7 +128,7 @@ pub mod messaging {
     pub use amqp_batches::Batch;
     pub use amqp_bodies::{
         AsBodyRef, Body, CanonicalBody, DataIter, DeserializableBody, FromBody, FromEmptyBody,
-        IntoBody, IntoData, IntoSequence, NullBody, PlainFromBody, PlainIntoBody, SequenceIter,
+        IntoBody, IntoData, IntoSequence, PlainFromBody, PlainIntoBody, SequenceIter,
         SerializableBody, TransposeOption, ValueBody, ValueFromBody,
     };
     pub use amqp_delivery::{

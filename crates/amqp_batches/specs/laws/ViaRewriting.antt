@@ -26,7 +26,6 @@ module _ {A B : Type 0} (r : Reading A) (to : B → A) where
         });
     text_again = λ v i f. ap (λ z. row_text (canons z)) (is v) ∙ x.text_again (to v) i f;
     value = λ input v n h. x.value input (to v) n (as_that input v n h);
-    lasting = λ input v n h. x.lasting input (to v) n (as_that input v n h);
     own = λ input v n h k. subst (λ z. r.same z (to v)) (sym (is v)) (x.own input (to v) n (as_that input v n h) k);
     large = λ input v n e h. x.large input (to v) n e (as_that input v n h);
     bounded = λ limits input v n h.

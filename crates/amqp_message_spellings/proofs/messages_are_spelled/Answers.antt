@@ -1,7 +1,7 @@
 use Rattle.amqp_batches.specs.laws.ReadAs.{IsReadAs, exactly}
 use Rattle.amqp_batches.specs.laws.NamedAs.{IsNamedAs, of_input}
 use Rattle.amqp_bodies.specs.ReadsAs.{read_as, named_as}
-use Rattle.amqp_message_spellings.proofs.Messages.{message_is_read, strict_is_read}
+use Rattle.amqp_messages.specs.laws.MessageSpelled.{message_is_read, strict_is_read}
 use Rattle.amqp_message_spellings.proofs.MessageFaults.{message_named, strict_named}
 use Rattle.amqp_message_spellings.proofs.messages_are_spelled.Goals as goal
 

@@ -1,4 +1,4 @@
-use Rattle.amqp_messages.proofs.StrictSteps.{strict_message, text_of_all, again_of_all, one_of_all, other_of_all}
+use Rattle.amqp_messages.proofs.StrictSteps.{strict_message, text_of_all, again_of_all, one_of_all, other_of_all, unchanged_of_all}
 use Rattle.amqp_messages.proofs.strict.canonical_text_strict_within.Goals as goal
 
 pub returns-in-Ok-clause-text : goal.returns-in-Ok-clause-text
@@ -18,6 +18,11 @@ pub returns-in-Ok-clause-no_other : goal.returns-in-Ok-clause-no_other
 returns-in-Ok-clause-no_other g c =
     other_of_all g.B.FromBody.made c.args.limits.now c.in-Ok.ensures.text
     c.in-Ok.ensures.no_other
+
+pub returns-in-Ok-clause-unchanged : goal.returns-in-Ok-clause-unchanged
+returns-in-Ok-clause-unchanged g c =
+    unchanged_of_all g.B.FromBody.made c.args.limits.now c.in-Ok.ensures.text
+    c.in-Ok.ensures.unchanged
 
 pub returns-in-Ok-clause-in_any_order : goal.returns-in-Ok-clause-in_any_order
 returns-in-Ok-clause-in_any_order g c = strict_message g.B.FromBody.made c.args.limits.now

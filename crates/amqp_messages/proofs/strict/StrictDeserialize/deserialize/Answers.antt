@@ -3,7 +3,7 @@ use Rattle.amqp_batches.proofs.Exits.{refused_at}
 use Rattle.amqp_batches.proofs.RunSteps.{refused_via}
 use Rattle.amqp_messages.specs.declared.order.Order.TheVariants.{Written}
 use Rattle.amqp_messages.specs.MessageWalk.{message_walk}
-use Rattle.amqp_messages.specs.MessageTypes.{message_of, message_in}
+use Rattle.amqp_messages.specs.Messages.{message_of, message_in}
 use Rattle.amqp_messages.proofs.strict.StrictDeserialize.deserialize.Goals as goal
 
 pub returns-in_err-read_message-clause-read : goal.returns-in_err-read_message-clause-read

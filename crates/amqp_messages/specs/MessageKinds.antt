@@ -12,13 +12,14 @@ use Rattle.amqp_map_sections.specs.declared.application_properties.ApplicationPr
 use Rattle.amqp_map_sections.specs.declared.delivery_annotations.DeliveryAnnotations.{DeliveryAnnotations}
 use Rattle.amqp_map_sections.specs.declared.footer.Footer.{Footer}
 use Rattle.amqp_map_sections.specs.declared.message_annotations.MessageAnnotations.{MessageAnnotations}
+use Rattle.amqp_message_headers.specs.declared.header.Header.{Header}
+use Rattle.amqp_message_headers.specs.declared.properties.Properties.{Properties}
 use Rattle.amqp_message_headers.specs.Tables.{header, properties}
+use Rattle.amqp_batches.specs.Spellings.{Spells, IsTerm}
 use Rattle.amqp_bodies.specs.Bodies.{Made}
 use Rattle.amqp_messages.specs.declared.message.Message.{Message}
 use Rattle.amqp_messages.specs.declared.strict.Strict.{Strict}
-use Rattle.amqp_messages.specs.MessageTypes.{message_in}
-use Rattle.amqp_batches.specs.Spellings.{Spells, IsTerm}
-use Rattle.amqp_message_spellings.specs.Kinds.{Kind, Kinds, none, kind, Fields, IsInAnyOrder, IsInOrder}
+use Rattle.amqp_messages.specs.Kinds.{Kinds, none, kind, ForEach, behind_code, Fields, IsInAnyOrder, IsInOrder}
 
 -- The types of the sections that are maps.
 abbrev pub delivery_annotations : TermType DeliveryAnnotations
@@ -33,49 +34,58 @@ application_properties = section_of in_application_properties application_proper
 abbrev pub footer : TermType Footer
 footer = section_of in_footer footer_naming annotations_type
 
--- One section of this code, whose term is of this type.
-abbrev pub section : {T : Type 0} → ℕ → TermType T → Kind
-section {T} c u = record { Value = T; codes = c ∷ []; spells = IsTerm u }
+-- The seven kinds, by what a body is read as: its groups are data, sequences or a value. A group of any other kind is one section.
+abbrev pub seven : Type 0 → Kinds
+seven S =
+    kind Header (0x70 ∷ [])
+    (kind DeliveryAnnotations (0x71 ∷ [])
+    (kind MessageAnnotations (0x72 ∷ [])
+    (kind Properties (0x73 ∷ [])
+    (kind ApplicationProperties (0x74 ∷ []) (kind S (0x75 ∷ 0x76 ∷ 0x77 ∷ []) (kind Footer (0x78 ∷ []) none))))))
 
--- What a body is read as: data, sequences or a value.
-abbrev pub body_kind : {S : Type 0} → Spells S → Kind
-body_kind {S} body = record { Value = S; codes = 0x75 ∷ 0x76 ∷ 0x77 ∷ []; spells = body }
+-- How many kinds come after that of a section with this code.
+abbrev pub behind_section : ℕ → ℕ
+behind_section c = behind_code (seven (Unit {0})) c
 
-abbrev pub seven : Kind → Kinds
-seven body =
-    kind (section 0x70 (composite header))
-    (kind (section 0x71 delivery_annotations)
-    (kind (section 0x72 message_annotations)
-    (kind (section 0x73 (composite properties))
-    (kind (section 0x74 application_properties)
-    (kind body
-    (kind (section 0x78 footer) none))))))
+-- For the body this, and for each section what follows from its type.
+abbrev pub by_type : {F : Type 0 → Type 1} → ((T : Type 0) → TermType T → F T) → {S : Type 0} → F S → ForEach F (seven S)
+by_type each body = (
+  each Header (composite header),
+  (
+    each DeliveryAnnotations delivery_annotations,
+    (
+      each MessageAnnotations message_annotations,
+      (each Properties (composite properties), (each ApplicationProperties application_properties, (body, (each Footer footer, tt)))),
+    ),
+  ),
+)
 
-module _ {S B : Type 0} (made : Made S B) (group : Spells S) where
-  abbrev pub kinds : Kinds
-  kinds = seven (body_kind group)
+-- Which bytes are a group of each.
+abbrev pub spelled : {S : Type 0} → Spells S → ForEach Spells (seven S)
+spelled group = by_type {F = Spells} (λ T u. IsTerm u) group
 
+-- The fields of a message, with this group as its body.
+abbrev pub fields_of : {S B : Type 0} → Option S → Message B → Fields (seven S)
+fields_of b v =
+    (v.header, (v.delivery_annotations, (v.message_annotations, (v.properties, (v.application_properties, (b, (v.footer, tt)))))))
+
+abbrev pub body_in : {S : Type 0} → Fields (seven S) → Option S
+body_in f = f.1.1.1.1.1.0
+
+module _ {S B : Type 0} (made : Made S B) where
   -- The body is made of the last group of its kind, or takes its place if there is none.
   abbrev pub IsBodyOf : Option S → B → Type 0
   IsBodyOf None v = made.empty v
   IsBodyOf (Some s) v = made.of_body s v
 
-  -- The fields of a message, with this group as its body.
-  abbrev pub fields_of : Option S → Message B → Fields kinds
-  fields_of b v =
-      (v.header, (v.delivery_annotations, (v.message_annotations, (v.properties, (v.application_properties, (b, (v.footer, tt)))))))
-
-  abbrev pub body_in : Fields kinds → Option S
-  body_in f = f.1.1.1.1.1.0
-
   -- Each field of the message is the last group of its kind, and the body is made of that.
-  pub record IsMadeOf (f : Fields kinds) (v : Message B) : Type 0 where
+  pub record IsMadeOf (f : Fields (seven S)) (v : Message B) : Type 0 where
     pub fields : f ≡ fields_of (body_in f) v
     pub body : IsBodyOf (body_in f) v.body
 
   -- With its sections in any order; and as the standard writes it.
-  abbrev pub IsMessage : Spells (Message B)
-  IsMessage b v more = IsInAnyOrder kinds IsMadeOf b v more
+  abbrev pub IsMessage : Spells S → Spells (Message B)
+  IsMessage group b v more = IsInAnyOrder (seven S) (spelled group) IsMadeOf b v more
 
-  abbrev pub IsStrictMessage : Spells (Strict B)
-  IsStrictMessage b v more = IsInOrder kinds IsMadeOf b (message_in v) more
+  abbrev pub IsStrictMessage : Spells S → Spells (Strict B)
+  IsStrictMessage group b v more = IsInOrder (seven S) (spelled group) IsMadeOf b v.0 more
