@@ -1,11 +1,11 @@
 -- A group of a message is read into what was read before.
-use Rattle.std.proofs.Common.{◌≡◌, ◌⊎◌, inl, inr, ℕ, zero, suc, Bool, true, false, ◌||◌, eqb, [], ◌∷◌, Result, Ok, Err, refl, sym, ap, ap₂, subst}
+use Rattle.std.proofs.Common.{◌≡◌, inl, inr, ℕ, zero, suc, Bool, true, false, ◌||◌, eqb, [], ◌∷◌, Result, Ok, Err, refl, sym, ap, ap₂, subst}
 use Rattle.std.proofs.lemmas.Bool.{eqb-true}
 use Rattle.amqp_wire.specs.declared.error.Error.{Error}
 use Rattle.amqp_decoder.specs.State.{State}
 use Rattle.amqp_codec.specs.laws.Refusal.{refused_first}
 use Rattle.amqp_messages.specs.Kinds.{Kinds, none, kind, is_in, Fields}
-use Rattle.amqp_messages.specs.KindsReading.{has, AreApart, Readings, Reads, KindFault}
+use Rattle.amqp_messages.specs.KindsReading.{has, AreApart, Readings, Reads}
 use Rattle.amqp_messages.specs.laws.KindsReading.{not_in, reads_has}
 use Rattle.amqp_bodies.specs.Bodies.{Made}
 use Rattle.amqp_messages.specs.MessageKinds.{seven}

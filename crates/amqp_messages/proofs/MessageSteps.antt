@@ -1,5 +1,5 @@
 -- How a message is read, group by group.
-use Rattle.std.proofs.Common.{◌≡◌, inl, inr, ℕ, zero, suc, ◌<◌, Bool, true, length, Option, Some, None, Ok, ◌⊎◌, refl, sym}
+use Rattle.std.proofs.Common.{◌≡◌, inl, inr, ℕ, zero, suc, ◌<◌, true, length, Option, Some, None, Ok, ◌⊎◌, refl, sym}
 use Rattle.std.proofs.Common.{ap, ◌∙◌, subst, arith, unwrap_or}
 use Rattle.amqp_wire.specs.declared.error.Error.{Error}
 use Rattle.amqp_wire.specs.declared.error.Error.TheVariants.{Memory}
@@ -14,7 +14,7 @@ use Rattle.amqp_codec.specs.Reading.{AreAlike}
 use Rattle.amqp_codec.proofs.Tries.{began_passed}
 use Rattle.amqp_codec.specs.laws.Refusal.{NoneStands, or_else}
 use Rattle.amqp_batches.specs.laws.State.{still_among, alike_stays, alike_rest, alike_trans}
-use Rattle.amqp_batches.specs.Walk.{IsAtTop, Walk, Steps, Walked, WalkFault, not_top, in_step}
+use Rattle.amqp_batches.specs.Walk.{IsAtTop, Walk, Steps, Walked, WalkFault, in_step}
 use Rattle.amqp_batches.specs.laws.Walk.{steps_top}
 use Rattle.amqp_batches.proofs.WalkSteps.{SoFar, so_far_stays, top_fault, none_walked, step_made, step_refused, finished, ran_out, unmade}
 use Rattle.amqp_messages.specs.declared.order.Order.{Order}

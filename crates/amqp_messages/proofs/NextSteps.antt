@@ -1,5 +1,5 @@
 -- How it is found which section of a message comes next.
-use Rattle.std.proofs.Common.{◌≡◌, inl, inr, ℕ, ◌<◌, ◌≤◌, Bool, true, false, IsTrue, [], length, Option, Some, None, ◌⊎◌, refl, sym, ap}
+use Rattle.std.proofs.Common.{◌≡◌, inr, ℕ, ◌<◌, ◌≤◌, Bool, true, false, IsTrue, [], length, Option, Some, None, ◌⊎◌, refl, sym, ap}
 use Rattle.std.proofs.Common.{◌∙◌, subst, arith}
 use Rattle.amqp_wire.specs.declared.error.Error.{Error}
 use Rattle.amqp_wire.specs.declared.error.Error.TheVariants.{Misplaced}
@@ -14,7 +14,7 @@ use Rattle.amqp_decoder.specs.Places.{Here, RefusesAt, StandsHere}
 use Rattle.amqp_decoder.proofs.Places.{placed_later}
 use Rattle.amqp_codec.specs.Reading.{AreAlike}
 use Rattle.amqp_codec.specs.laws.Refusal.{NoneStands, excused_as, no_memory, or_else}
-use Rattle.amqp_batches.specs.laws.State.{still_among, alike_stays, alike_rest, alike_trans}
+use Rattle.amqp_batches.specs.laws.State.{alike_stays, alike_rest, alike_trans}
 use Rattle.amqp_batches.specs.Walk.{IsAtTop}
 use Rattle.amqp_batches.specs.NoSections.{NoSection}
 use Rattle.amqp_batches.proofs.WalkSteps.{peeked_alike}

@@ -3,7 +3,7 @@ use Rattle.std.proofs.Common.{List, [], ◌++◌, Option, Some, None, IfSome}
 use Rattle.amqp_model.specs.Term.{Term}
 use Rattle.amqp_codec.specs.Written.{AreProper, Writing}
 use Rattle.amqp_batches.specs.laws.Row.{both_proper}
-use Rattle.std.proofs.Common.{◌⊎◌, inl, inr}
+use Rattle.std.proofs.Common.{inl, inr}
 use Rattle.amqp_messages.specs.Kinds.{Kinds, none, kind, ForEach, Group, Fields}
 
 abbrev pub Writings : Kinds → Type 1

@@ -1,15 +1,14 @@
 -- A message is read again from its text (Part 3, section 3.2).
 use Rattle.std.specs.Prelude.{String}
-use Rattle.std.proofs.Common.{◌≡◌, ◌⊎◌, inl, inr, ℕ, ◌≤◌, Global, List, [], ◌++◌, length, take, drop, option_map, Option, Some, None, IfSome, refl, sym, ap, ap₂, subst, false}
+use Rattle.std.proofs.Common.{◌≡◌, ◌⊎◌, inl, inr, ℕ, Global, List, [], ◌++◌, length, take, drop, option_map, Option, Some, None, IfSome, refl, sym, ap, subst, false}
 use Rattle.std.proofs.lemmas.List.{append-nil}
 use Rattle.amqp_model.specs.FieldType.{normal}
-use Rattle.amqp_wire.specs.declared.error.Error.{Error}
-use Rattle.amqp_wire.specs.declared.error.Error.TheVariants.{TooLarge, EmptyBody}
+use Rattle.amqp_wire.specs.declared.error.Error.TheVariants.{EmptyBody}
 use Rattle.amqp_encoder.specs.Passes.{row_text}
 use Rattle.amqp_codec.specs.Composite.{composite}
 use Rattle.amqp_codec.specs.Written.{Writing, AreWritable}
 use Rattle.amqp_codec.specs.Agreement.{Agreement}
-use Rattle.amqp_codec.specs.Reading.{Reading, BeginsWith, IsUnreadable, start}
+use Rattle.amqp_codec.specs.Reading.{BeginsWith, IsUnreadable, start}
 use Rattle.amqp_codec.specs.Rewriting.{Rewriting}
 use Rattle.amqp_values.specs.declared.value.Value.{Value}
 use Rattle.amqp_simple_values.specs.declared.simple.SimpleValue.{SimpleValue}
@@ -32,8 +31,8 @@ use Rattle.amqp_messages.specs.declared.order.Order.{Order}
 use Rattle.amqp_messages.specs.declared.order.Order.TheVariants.{Any, Written}
 use Rattle.amqp_messages.specs.declared.message.Message.{Message}
 use Rattle.amqp_messages.specs.Kinds.{Kinds, Fields, Group, nothing, put_all, Fall}
-use Rattle.amqp_messages.specs.KindsReading.{Readings, SameFields}
-use Rattle.amqp_messages.specs.KindsWriting.{AllHave, Properties, row_of, are_values}
+use Rattle.amqp_messages.specs.KindsReading.{Readings}
+use Rattle.amqp_messages.specs.KindsWriting.{AllHave, row_of, are_values}
 use Rattle.amqp_messages.specs.KindsTexts.{Texts, writings_in, are_lasting, are_kept, were_read, are_sound, groups_of}
 use Rattle.amqp_messages.specs.KindsTexts as kinds
 use Rattle.amqp_messages.specs.MessageKinds.{seven, delivery_annotations, message_annotations, application_properties, footer}

@@ -7,7 +7,7 @@ use Rattle.amqp_codec.specs.TermReading.{reading_of}
 use Rattle.amqp_codec.specs.Composite.{composite}
 use Rattle.amqp_codec.specs.Reading.{Reading}
 use Rattle.amqp_codec.specs.Written.{Writing}
-use Rattle.amqp_codec.specs.Agreement.{Agreement, writing_of, agreement}
+use Rattle.amqp_codec.specs.Agreement.{Agreement, agreement}
 use Rattle.amqp_sections.specs.SectionType.{section_writing, section_agreement}
 use Rattle.amqp_values.specs.declared.value.Value.{Value}
 use Rattle.amqp_simple_values.specs.declared.simple.SimpleValue.{SimpleValue}
@@ -25,7 +25,7 @@ use Rattle.amqp_bodies.specs.BodyRewriting.{IsBodyCode}
 use Rattle.amqp_bodies.specs.BodyTexts.{IsBodyGroup, body_group}
 use Rattle.amqp_messages.specs.Kinds.{is_in}
 use Rattle.amqp_messages.specs.KindsTexts.{Texts}
-use Rattle.amqp_messages.specs.MessageKinds.{seven, delivery_annotations, message_annotations, application_properties, footer}
+use Rattle.amqp_messages.specs.MessageKinds.{seven}
 use Rattle.amqp_messages.specs.Messages.{readings_of}
 use Rattle.amqp_messages.specs.laws.KindsReading.{or_true}
 

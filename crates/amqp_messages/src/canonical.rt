@@ -22,5 +22,5 @@ impl<B: CanonicalBody> Canonical for Message<B> {
 
     ghost is_least = { false };
 
-    ghost rewrites = { message_is_rewritten annotations_agreement simple_map_agreement B.is_text (read_as B.group_is B.Body.is_read) Any };
+    ghost rewrites = { message_is_rewritten annotations_agreement simple_map_agreement B.is_text (read_as B.group_is B.is_read) Any };
 }

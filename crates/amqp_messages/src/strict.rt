@@ -72,7 +72,7 @@ impl<B: CanonicalBody> Canonical for Strict<B> {
 
     ghost is_least = { false };
 
-    ghost rewrites = { strict_is_rewritten annotations_agreement simple_map_agreement B.is_text (read_as B.group_is B.Body.is_read) };
+    ghost rewrites = { strict_is_rewritten annotations_agreement simple_map_agreement B.is_text (read_as B.group_is B.is_read) };
 }
 
 /// Reads the message that the reader's bytes are, strictly. Its sections are in the standard's order: header, delivery annotations, message

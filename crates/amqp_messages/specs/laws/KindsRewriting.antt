@@ -1,5 +1,5 @@
 -- The text of some groups is read as them again.
-use Rattle.std.proofs.Common.{◌≡◌, ◌⊎◌, inl, inr, ℕ, suc, ◌≤◌, ◌<◌, true, List, [], ◌∷◌, ◌++◌, length, drop, map, Option, Some, None, option_map, IfSome, refl, sym, ap, ap₂, ◌∙◌, subst, arith}
+use Rattle.std.proofs.Common.{◌≡◌, ◌⊎◌, inl, inr, ℕ, suc, ◌≤◌, true, List, [], ◌∷◌, ◌++◌, length, drop, map, Option, Some, None, option_map, IfSome, refl, sym, ap, ap₂, ◌∙◌, subst, arith}
 use Rattle.std.proofs.Common.{append_assoc}
 use Rattle.std.proofs.lemmas.List.{take_at, drop_at}
 use Rattle.amqp_model.specs.FieldRules.{SameOption}
@@ -10,9 +10,8 @@ use Rattle.amqp_lookahead.specs.Sections.{IsSectionAhead}
 use Rattle.amqp_lookahead.proofs.SectionsAhead.{one_ahead}
 use Rattle.amqp_encoder.specs.Passes.{row_text}
 use Rattle.amqp_codec.specs.Written.{AreWritable, AreUnwritable}
-use Rattle.amqp_batches.specs.GroupTexts.{GroupText, IsSound, read_sound}
+use Rattle.amqp_batches.specs.GroupTexts.{IsSound, read_sound}
 use Rattle.amqp_batches.specs.Spellings.{Spells, Are}
-use Rattle.amqp_batches.specs.laws.ReadAs.{IsReadAs}
 use Rattle.amqp_batches.specs.laws.Resuming.{IsRead}
 use Rattle.amqp_batches.specs.laws.Row.{row_text_none, row_text_joined, front_writable, back_writable, front_or_back, none_refused}
 use Rattle.amqp_messages.specs.Kinds.{Kinds, none, kind, ForEach, is_in, size, Fields, nothing, Group, IsGroup, behind, put, put_all, Fall}

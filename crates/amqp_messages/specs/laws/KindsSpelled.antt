@@ -1,5 +1,5 @@
 -- Groups are read as they are spelled, one after another.
-use Rattle.std.proofs.Common.{◌≡◌, ◌⊎◌, inl, inr, ℕ, zero, suc, ◌-◌, ◌<◌, ◌≤◌, true, List, [], ◌∷◌, ◌++◌, length, take, drop, refl, sym, ap, ◌∙◌, subst, arith}
+use Rattle.std.proofs.Common.{◌≡◌, ◌⊎◌, inl, inr, ℕ, zero, suc, ◌-◌, ◌<◌, ◌≤◌, List, [], ◌∷◌, ◌++◌, length, take, drop, refl, sym, ap, ◌∙◌, subst, arith}
 use Rattle.std.proofs.Common.{length-append, append_assoc}
 use Rattle.std.proofs.lemmas.List.{take_at, drop_at}
 use Rattle.amqp_lookahead.specs.Sections.{IsSectionAhead}
@@ -8,14 +8,14 @@ use Rattle.amqp_codec.specs.Reading.{start}
 use Rattle.amqp_batches.specs.laws.Resuming.{IsUnlimited, start_unlimited, fresh_top}
 use Rattle.amqp_batches.specs.laws.State.{alike_rest}
 use Rattle.amqp_batches.specs.Spellings.{Spells, Are}
-use Rattle.amqp_batches.specs.laws.ReadAs.{IsReadAs, Took, took, takes, still_free}
+use Rattle.amqp_batches.specs.laws.ReadAs.{IsReadAs, took, takes, still_free}
 use Rattle.amqp_batches.specs.Walk as walks
 use Rattle.amqp_batches.specs.Walk.{Steps}
 use Rattle.amqp_batches.specs.WalkReading.{walk_reading}
 use Rattle.amqp_messages.specs.declared.order.Order.{Order}
 use Rattle.amqp_messages.specs.declared.order.Order.TheVariants.{Any, Written}
 use Rattle.amqp_messages.specs.Orders.{further, IsFull}
-use Rattle.amqp_messages.specs.Kinds.{Kinds, none, kind, ForEach, Fields, Group, IsGroup, behind, behind_code, nothing, put, put_all, Fall}
+use Rattle.amqp_messages.specs.Kinds.{Kinds, none, kind, ForEach, Fields, Group, IsGroup, behind, nothing, put, put_all, Fall}
 use Rattle.amqp_messages.specs.Kinds.{size, IsInAnyOrder, IsInOrder}
 use Rattle.amqp_messages.specs.KindsReading.{Readings, Reads}
 use Rattle.amqp_messages.specs.laws.KindsReading.{reads_behind}

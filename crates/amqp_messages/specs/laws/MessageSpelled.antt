@@ -1,5 +1,5 @@
 -- Messages are read as their groups are spelled (Part 3, section 3.2).
-use Rattle.std.proofs.Common.{◌≡◌, ℕ, List, refl}
+use Rattle.std.proofs.Common.{refl}
 use Rattle.amqp_batches.specs.Spellings.{Spells}
 use Rattle.amqp_batches.specs.laws.ReadAs.{IsReadAs, term_is_read}
 use Rattle.amqp_batches.specs.WalkReading.{walk_reading, reading_via}

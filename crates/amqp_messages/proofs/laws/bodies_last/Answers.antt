@@ -8,10 +8,10 @@ use Rattle.amqp_messages.proofs.laws.bodies_last.Goals as goal
 pub returns-clause-any : goal.returns-clause-any
 returns-clause-any g c =
     message_lasts annotations_agreement simple_map_agreement g.met.B.CanonicalBody.is_text
-    (read_as g.met.B.FromBody.group_is g.met.B.Body.DeserializableBody.is_read) Any
+    (read_as g.met.B.FromBody.group_is g.met.B.DeserializableBody.is_read) Any
 
 pub returns-clause-strict : goal.returns-clause-strict
 returns-clause-strict g c input message n h =
     message_lasts annotations_agreement simple_map_agreement g.met.B.CanonicalBody.is_text
-    (read_as g.met.B.FromBody.group_is g.met.B.Body.DeserializableBody.is_read) Written input message n
+    (read_as g.met.B.FromBody.group_is g.met.B.DeserializableBody.is_read) Written input message n
     (record { after = h.after; read = h.read; left = h.left })

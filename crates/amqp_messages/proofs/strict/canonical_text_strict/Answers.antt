@@ -29,7 +29,7 @@ returns-in-Ok-clause-in_any_order g c = strict_message g.B.FromBody.made greates
 pub returns-in-Ok-clause-leniently : goal.returns-in-Ok-clause-leniently
 returns-in-Ok-clause-leniently g c =
     every_text (message_is_rewritten annotations_agreement simple_map_agreement g.met.B.CanonicalBody.is_text
-    (read_as g.met.B.FromBody.group_is g.met.B.Body.DeserializableBody.is_read) Any)
+    (read_as g.met.B.FromBody.group_is g.met.B.DeserializableBody.is_read) Any)
 
 pub returns-in-Err-clause-in_any_order : goal.returns-in-Err-clause-in_any_order
 returns-in-Err-clause-in_any_order g c = strict_message g.B.FromBody.made greatest
@@ -37,4 +37,4 @@ returns-in-Err-clause-in_any_order g c = strict_message g.B.FromBody.made greate
 pub returns-in-Err-clause-leniently : goal.returns-in-Err-clause-leniently
 returns-in-Err-clause-leniently g c =
     every_text (message_is_rewritten annotations_agreement simple_map_agreement g.met.B.CanonicalBody.is_text
-    (read_as g.met.B.FromBody.group_is g.met.B.Body.DeserializableBody.is_read) Any)
+    (read_as g.met.B.FromBody.group_is g.met.B.DeserializableBody.is_read) Any)
