@@ -10,10 +10,10 @@ use Rattle.amqp_decoder.specs.Steps.{RefusesBy}
 use Rattle.amqp_decoder.specs.Sections.{PeeksSection}
 use Rattle.amqp_decoder.specs.Places.{Located, RefusesAt}
 use Rattle.amqp_codec.specs.Reading.{Reading}
-use Rattle.amqp_batches.specs.laws.State.{still_among, stays_then, alike_stays, alike_rest}
-use Rattle.amqp_batches.specs.Walk.{IsAtTop, Walk, Walked, WalkFault}
+use Rattle.amqp_batches.specs.laws.State.{still_among, alike_stays, alike_rest}
+use Rattle.amqp_batches.specs.Walk.{IsAtTop, IsNext, Walk, Walked, WalkFault}
 use Rattle.amqp_batches.specs.Runs.{run_walk}
-use Rattle.amqp_batches.proofs.WalkSteps.{SoFar, peeked_top, peeked_alike, step_made, finished, step_refused, ran_out}
+use Rattle.amqp_batches.proofs.WalkSteps.{SoFar, peeked_top, peeked_alike, none_so_far, step_made, step_seen, finished, step_refused, ran_out}
 
 module _ {T : Type 0} (c : ℕ) (r : Reading T) where
   abbrev w : Walk (List T) (List T)
@@ -33,34 +33,46 @@ module _ {T : Type 0} (c : ℕ) (r : Reading T) where
       let t = peeked_top mid o here p in
       (s.error ∙ t.0, s.place ∙ t.1, s.saved ∙ t.2, still_among s ∙ t.3)
 
+  -- it was looked at what comes next
+  pub next_here : (mid : State) (o : Option ℕ) (here : State) → PeeksSection mid o here → o ≡ Some c → IsNext c here
+  next_here mid o here p i = (still_top mid o here p, is_ahead mid o here p i)
+
+  pub none_here : (mid : State) (o : Option ℕ) (here : State) → PeeksSection mid o here → (o ≡ Some c → ⊥)
+      → IsAtTop here × (IsSectionAhead here.rest c → ⊥)
+  none_here mid o here p n = (still_top mid o here p, not_ahead mid o here p n)
+
   -- one more section was read
-  pub one_more : (st : State) (xs ys : List T) (v : T) (mid : State) (o : Option ℕ) (here b : State) → ys ≡ xs ++ v ∷ []
-      → SoFar w st xs mid → PeeksSection mid o here → o ≡ Some c → r.reads here v b → SoFar w st ys b
-  one_more st xs ys v mid o here b g h p i k =
-      step_made w st xs ys mid here b h (peeked_alike mid o here p)
-      (record { top = still_top mid o here p; item = v; grows = g; ahead = is_ahead mid o here p i; read = k })
+  pub one_more : (st : State) (xs ys : List T) (v : T) (mid b : State) → ys ≡ xs ++ v ∷ [] → SoFar w st xs mid → IsNext c mid
+      → r.reads mid v b → SoFar w st ys b
+  one_more st xs ys v mid b g h n k =
+      step_made w st xs ys mid mid b h refl (record { top = n.0; item = v; grows = g; ahead = n.1; read = k })
+
+  pub one_more_seen : (st : State) (xs ys : List T) (v : T) (mid b : State) (o : Option ℕ) (next : State) → ys ≡ xs ++ v ∷ []
+      → SoFar w st xs mid → IsNext c mid → r.reads mid v b → PeeksSection b o next → SoFar w st ys next
+  one_more_seen st xs ys v mid b o next g h n k p =
+      step_seen w st xs ys mid mid b next h refl (record { top = n.0; item = v; grows = g; ahead = n.1; read = k }) (peeked_alike b o next p)
 
   -- the next section was refused
-  pub item_refused : (st : State) (xs : List T) (mid : State) (o : Option ℕ) (here : State) (e : Error) (new : State)
-      → SoFar w st xs mid → PeeksSection mid o here → o ≡ Some c → RefusesAt r.takes_memory r.reads r.fault here e new
-      → RefusesAt true (Walked w) (WalkFault w) st e new
-  item_refused st xs mid o here e new h p i q =
-      step_refused w r.reads r.fault st xs mid here e new h (peeked_top mid o here p) (peeked_alike mid o here p) (λ _. refl)
-      (λ x f. (is_ahead mid o here p i, f)) (λ none n x b l s. none s.item b s.read) (λ d. d (is_ahead mid o here p i)) q
+  pub item_refused : (st : State) (xs : List T) (mid : State) (e : Error) (new : State) → SoFar w st xs mid → IsNext c mid
+      → RefusesAt r.takes_memory r.reads r.fault mid e new → RefusesAt true (Walked w) (WalkFault w) st e new
+  item_refused st xs mid e new h n q =
+      step_refused w r.reads r.fault st xs mid mid e new h n.0 refl (λ _. refl) (λ x f. (n.1, f)) (λ none n x b l s. none s.item b s.read)
+      (λ d. d n.1) q
 
   -- no memory for it
-  pub item_not_kept : (st : State) (xs : List T) (v : T) (mid : State) (o : Option ℕ) (here b : State) (e : Error) (new : State)
-      → SoFar w st xs mid → PeeksSection mid o here → r.reads here v b → RefusesBy Memory b e new
-      → RefusesAt true (Walked w) (WalkFault w) st e new
-  item_not_kept st xs v mid o here b e new h p k refused =
-      ran_out w st xs mid b e new refl h (peeked_top mid o here p)
-      (stays_then (alike_stays mid here (peeked_alike mid o here p)) (r.stays here v b k)) refused
+  pub item_not_kept : (st : State) (xs : List T) (v : T) (mid b : State) (e : Error) (new : State) → SoFar w st xs mid → IsNext c mid
+      → r.reads mid v b → RefusesBy Memory b e new → RefusesAt true (Walked w) (WalkFault w) st e new
+  item_not_kept st xs v mid b e new h n k refused = ran_out w st xs mid b e new refl h n.0 (r.stays mid v b k) refused
 
   -- the run ends
-  pub run_ends : (st : State) (xs : List T) (mid : State) (o : Option ℕ) (here : State) → SoFar w st xs mid → PeeksSection mid o here
-      → (o ≡ Some c → ⊥) → Walked w st xs here
-  run_ends st xs mid o here h p n =
-      finished w st xs mid here xs h (peeked_top mid o here p) (peeked_alike mid o here p) (not_ahead mid o here p n) refl
+  pub run_ends : (st : State) (xs : List T) (mid : State) → SoFar w st xs mid → IsAtTop mid × (IsSectionAhead mid.rest c → ⊥)
+      → Walked w st xs mid
+  run_ends st xs mid h n = finished w st xs mid mid xs h n.0 refl n.1 refl
+
+  -- no section comes next
+  pub no_run : (st : State) (o : Option ℕ) (here : State) → PeeksSection st o here → (o ≡ Some c → ⊥) → Walked w st [] here
+  no_run st o here p n =
+      finished w st [] st here [] (none_so_far w st) (peeked_top st o here p) (peeked_alike st o here p) (not_ahead st o here p n) refl
 
 -- what a comparison of codes tells
 pub code_is : (o : Option ℕ) (k c : ℕ) → k ≡ c → true ≡ option_eq eqb o (Some k) → o ≡ Some c

@@ -13,7 +13,7 @@ use Rattle.amqp_codec.specs.Reading.{Stays, looking, AreAlike}
 use Rattle.amqp_codec.specs.laws.Refusal.{NoneStands, excused_as, no_memory, or_else}
 use Rattle.amqp_batches.specs.laws.State.{still_among, stays_then, alike_stays, alike_rest, alike_sym, alike_trans}
 use Rattle.amqp_batches.specs.Walk.{IsAtTop, Walk, Steps, Walked, WalkFault, not_top, in_step, not_made}
-use Rattle.amqp_batches.specs.laws.Walk.{GoesOn, goes_on, steps_leave, steps_top, one_step_more}
+use Rattle.amqp_batches.specs.laws.Walk.{GoesOn, goes_on, steps_leave, steps_looked, steps_top, one_step_more}
 
 -- So much was read so far, and the decoder stands there.
 pub record SoFar {M V : Type 0} (w : Walk M V) (st : State) (m : M) (mid : State) : Type 0 where
@@ -39,9 +39,13 @@ module _ {M V : Type 0} (w : Walk M V) where
       let s = so_far_stays st m mid h in
       (sym s.error ∙ t.0, sym s.place ∙ t.1, sym s.saved ∙ t.2, sym (still_among s) ∙ t.3)
 
-  pub step_made : (st : State) (m x : M) (mid here b : State) → SoFar w st m mid → AreAlike mid here → w.step here m x b
-      → SoFar w st x b
-  step_made st m x mid here b h a s =
+  pub none_so_far : (st : State) → SoFar w st w.blank st
+  none_so_far st = record { number = 0; last = st; steps = (refl, refl); here = refl; first = λ _. refl }
+
+  -- a step was made, and it was looked at what comes next
+  pub step_seen : (st : State) (m x : M) (mid here b next : State) → SoFar w st m mid → AreAlike mid here → w.step here m x b
+      → AreAlike b next → SoFar w st x next
+  step_seen st m x mid here b next h a s seen =
       let f = w.step_looked h.last.ahead here m x b s in
       let back : looking h.last.ahead here ≡ h.last = sym (alike_sym h.last here (alike_trans h.last mid here h.here a)) in
       let k : w.step h.last m x (looking f.0 b) = subst (λ (q : State). w.step q m x (looking f.0 b)) back f.1 in
@@ -49,9 +53,13 @@ module _ {M V : Type 0} (w : Walk M V) where
         number = suc h.number;
         last = looking f.0 b;
         steps = one_step_more w h.number st w.blank m x h.last (looking f.0 b) h.steps k;
-        here = refl;
+        here = alike_trans (looking f.0 b) b next refl seen;
         first = λ e. absurd (cc);
       }
+
+  pub step_made : (st : State) (m x : M) (mid here b : State) → SoFar w st m mid → AreAlike mid here → w.step here m x b
+      → SoFar w st x b
+  step_made st m x mid here b h a s = step_seen st m x mid here b b h a s refl
 
   pub finished : (st : State) (m : M) (mid here : State) (v : V) → SoFar w st m mid → IsAtTop mid → AreAlike mid here
       → w.done m here.rest → w.finish m v → Walked w st v here
@@ -213,4 +221,50 @@ module _ {M V : Type 0} (w : Walk M V) where
           before_later st here (length here.rest) new s.sound (at going),
         );
         none = inr (none_made st m mid here error h a d f);
+      }
+
+  -- what is read behind a look at what comes next
+  steps_behind : (n : ℕ) (st here : State) (m x : M) (b : State) → AreAlike here st → Steps w n here m x b
+      → (last : State) × Steps w n st m x last × AreAlike last b
+  steps_behind n st here m x b alike h =
+      let f = steps_looked w n st.ahead here m x b h in
+      (looking f.0 b, subst (λ (q : State). Steps w n q m x (looking f.0 b)) (sym alike) f.1, refl)
+
+  pub walked_behind : (st here : State) (v : V) (b : State) → IsAtTop st → AreAlike st here → Walked w here v b → Walked w st v b
+  walked_behind st here v b top alike h =
+      let s = steps_behind h.number st here w.blank h.part h.last (alike_sym st here alike) h.steps in
+      record {
+        top = top;
+        number = h.number;
+        part = h.part;
+        last = s.0;
+        steps = s.1;
+        done = subst (w.done h.part) (alike_rest s.0 h.last s.2) h.done;
+        made = h.made;
+        left = alike_trans s.0 h.last b s.2 h.left;
+      }
+
+  fault_behind : (st here : State) (e : Located) → IsAtTop here → AreAlike st here → WalkFault w here e → WalkFault w st e
+  fault_behind st here e top alike (not_top n) = absurd (n.0.0 top.1 top.2 top.3)
+  fault_behind st here e top alike (in_step n part last mid h near f) =
+      let s = steps_behind n st here w.blank part last (alike_sym st here alike) h in
+      in_step n part s.0 mid s.1 (alike_trans s.0 last mid s.2 near) f
+  fault_behind st here e top alike (not_made n part last h d f left) =
+      let s = steps_behind n st here w.blank part last (alike_sym st here alike) h in
+      not_made n part s.0 s.1 (subst (w.done part) (alike_rest s.0 last s.2) d) f (left ∙ ap length (alike_rest s.0 last s.2))
+
+  pub walk_refused_behind : {A : Type 0} (to : A → V) (st here : State) (e : Error) (new : State) → IsAtTop st → AreAlike st here
+      → RefusesAt w.takes_memory (λ st v b. Walked w st (to v) b) (WalkFault w) here e new
+      → RefusesAt w.takes_memory (λ st v b. Walked w st (to v) b) (WalkFault w) st e new
+  walk_refused_behind to st here e new top alike r =
+      let s = alike_stays st here alike in
+      let top_here : IsAtTop here = (s.error ∙ top.0, s.place ∙ top.1, s.saved ∙ top.2, still_among s ∙ top.3) in
+      record {
+        kept = answered_later s.sound r.kept;
+        again = λ d x. (let going = top.0 in absurd (cc));
+        named = λ g.
+            or_else (excused_as e new (λ z. z))
+            (placed_later {g = WalkFault w st} st here new s.sound (λ x f. fault_behind st here x top_here alike f)) (r.named (s.error ∙ g));
+        none = or_else (excused_as e new (λ z. z))
+            (λ n v b k. n v b (walked_behind here st (to v) b top_here (alike_sym st here alike) k)) r.none;
       }

@@ -1,6 +1,7 @@
 -- What is read at the top level one thing after another: the sections of a batch, the groups of a message (Part 3, section 3.2).
 use Rattle.std.specs.Prelude.{◌≡◌, ℕ, zero, suc, ◌+◌, ◌≤◌, Bool, true, false, List, [], length, None}
 use Rattle.amqp_wire.specs.declared.error.Error.{Error}
+use Rattle.amqp_lookahead.specs.Sections.{IsSectionAhead}
 use Rattle.amqp_decoder.specs.declared.frame.Place.TheVariants.{Top}
 use Rattle.amqp_decoder.specs.State.{Source, State}
 use Rattle.amqp_decoder.specs.Steps.{IsOutside}
@@ -12,6 +13,10 @@ use Rattle.amqp_codec.specs.Reading.{Taken, Stays, looking, AreAlike}
 -- No error was kept, nothing is open, and what stands next may be looked at.
 abbrev pub IsAtTop : State → Type 0
 IsAtTop st = (st.error ≡ None) × (st.top.place ≡ Top) × (st.saved ≡ []) × (st.failed.alone ≡ false)
+
+-- A section of this code comes next there.
+abbrev pub IsNext : ℕ → State → Type 0
+IsNext c st = IsAtTop st × IsSectionAhead st.rest c
 
 -- What a step leaves: so many values were read before it, and so many after.
 pub record Leaves (st : State) (before after : ℕ) (b : State) : Type 0 where

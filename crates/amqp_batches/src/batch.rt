@@ -39,7 +39,11 @@ impl<T: BatchItem + DeserializeTerm> Deserialize for TransparentVec<T> {
         decoder: &mut Decoder<R>,
         alloc: Global,
     ) -> Result<TransparentVec<T>, Error> {
-        Ok(TransparentVec::new(read_run(decoder, alloc)?))
+        if decoder.peek_section()? == Some(T::code()) {
+            Ok(TransparentVec::new(read_run(decoder, alloc)?))
+        } else {
+            Ok(TransparentVec::new(Vec::new(alloc)))
+        }
     }
 }
 

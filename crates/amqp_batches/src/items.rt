@@ -9,12 +9,13 @@ ghost use Rattle.amqp_batches.specs.RepeatedSections.{data_section, sequence_sec
 use crate::run::BatchItem;
 use amqp_codec::{Serialize, SerializeTerm};
 use amqp_sections::{AmqpSequence, Data};
+use amqp_wire::section_code;
 
 impl BatchItem for Data {
     ghost code = { 0x75 };
 
     fn code() -> u8 {
-        0x75
+        section_code::DATA
     }
 
     ghost is_section = { data_section in_data (writing_of binary_type refl) };
@@ -26,7 +27,7 @@ impl<T: SerializeTerm> BatchItem for AmqpSequence<T> {
     ghost code = { 0x76 };
 
     fn code() -> u8 {
-        0x76
+        section_code::AMQP_SEQUENCE
     }
 
     ghost is_section = { sequence_section in_sequence ⟦<Vec<T> as Serialize>⟧.writing };

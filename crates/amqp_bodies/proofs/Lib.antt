@@ -1,3 +1,4 @@
 pub mod PeekSteps
+pub mod BodyKinds
 pub mod BodySteps
 pub mod TransposeSteps

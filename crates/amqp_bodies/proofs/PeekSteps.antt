@@ -1,37 +1,43 @@
--- What is read behind a look at the section that comes next.
-use Rattle.std.proofs.Common.{◌≡◌, inr, ℕ, Bool, true, false, not, Option, Some, None, Result, Ok, Err, ◌⊎◌, length, refl, sym, ◌∙◌, subst}
+-- What is read where a section comes next, or behind a look at it.
+use Rattle.std.proofs.Common.{◌≡◌, inr, ℕ, Bool, true, false, Option, Some, None, Result, Ok, Err, ◌⊎◌, length, refl, sym, ◌∙◌, subst}
 use Rattle.amqp_wire.specs.declared.error.Error.{Error}
 use Rattle.amqp_lookahead.specs.Sections.{IsSectionAhead}
 use Rattle.amqp_decoder.specs.State.{State}
 use Rattle.amqp_decoder.specs.Steps.{IsExcused, RefusesBy}
 use Rattle.amqp_decoder.specs.Sections.{NotTop, PeeksSection}
 use Rattle.amqp_decoder.proofs.Steps.{answered_later, first_kept}
-use Rattle.amqp_decoder.proofs.Places.{before_later}
 use Rattle.amqp_decoder.specs.Places.{Located, Here, RefusesAt, AnswersAt, StandsHere}
 use Rattle.amqp_decoder.proofs.Places.{placed_later}
-use Rattle.amqp_codec.specs.Reading.{Reading, looking}
-use Rattle.amqp_codec.specs.laws.Refusal.{NoneStands, excused_as, no_memory, or_else}
-use Rattle.amqp_batches.specs.laws.State.{still_among, alike_stays, alike_rest}
-use Rattle.amqp_batches.specs.Walk.{IsAtTop}
+use Rattle.amqp_codec.specs.Reading.{Reading, AreAlike, looking}
+use Rattle.amqp_codec.specs.laws.Refusal.{NoneStands, excused_as, no_memory, or_else, refused_first}
+use Rattle.amqp_batches.specs.laws.State.{still_among, alike_stays, alike_rest, alike_sym, alike_trans}
+use Rattle.amqp_batches.specs.Walk.{IsAtTop, IsNext}
 use Rattle.amqp_batches.proofs.WalkSteps.{peeked_alike}
 use Rattle.amqp_bodies.specs.SeenReading.{SeenReads, SeenFault, read_behind, seen_reading}
 
-pub top_here : (st : State) (o : Option ℕ) (here : State) → PeeksSection st o here → IsAtTop here
-top_here st o here p =
-    let s = alike_stays st here (peeked_alike st o here p) in (s.error ∙ p.going, s.place ∙ p.place, s.saved ∙ p.saved, still_among s ∙ p.among)
-
-pub ahead_here : (st : State) (o : Option ℕ) (here : State) (c : ℕ) → PeeksSection st o here → o ≡ Some c → IsSectionAhead here.rest c
-ahead_here st o here c p i =
-    let a = p.answer c in subst (λ b. IsSectionAhead b c) (sym (alike_rest st here (peeked_alike st o here p))) (a.0 i)
-
-pub none_here : (st : State) (o : Option ℕ) (here : State) (c : ℕ) → PeeksSection st o here → (o ≡ Some c → ⊥)
-    → IsSectionAhead here.rest c → ⊥
-none_here st o here c p n h =
-    let a = p.answer c in n (a.1 (subst (λ b. IsSectionAhead b c) (alike_rest st here (peeked_alike st o here p)) h))
+pub next_here : (st : State) (o : Option ℕ) (here : State) (c : ℕ) → PeeksSection st o here → o ≡ Some c → IsNext c here
+next_here st o here c p i =
+    let alike = peeked_alike st o here p in
+    let s = alike_stays st here alike in
+    let a = p.answer c in (
+      (s.error ∙ p.going, s.place ∙ p.place, s.saved ∙ p.saved, still_among s ∙ p.among),
+      subst (λ b. IsSectionAhead b c) (sym (alike_rest st here alike)) (a.0 i),
+    )
 
 pub no_section_here : (st : State) (o : Option ℕ) (here : State) → PeeksSection st o here → o ≡ None → (c : ℕ)
     → IsSectionAhead here.rest c → ⊥
-no_section_here st o here p i c h = none_here st o here c p (λ e. (let z = sym i ∙ e in absurd (cc))) h
+no_section_here st o here p i c h =
+    let a = p.answer c in
+    let e = a.1 (subst (λ b. IsSectionAhead b c) (alike_rest st here (peeked_alike st o here p)) h) in
+    let z = sym i ∙ e in absurd (cc)
+
+-- behind a look the same section comes next
+pub still_next : (st here : State) (c : ℕ) → AreAlike st here → IsNext c st → IsNext c here
+still_next st here c alike (top, ahead) =
+    let s = alike_stays st here alike in (
+      (s.error ∙ top.0, s.place ∙ top.1, s.saved ∙ top.2, still_among s ∙ top.3),
+      subst (λ b. IsSectionAhead b c) (sym (alike_rest st here alike)) ahead,
+    )
 
 module _ {V : Type 0} (r : Reading V) where
   abbrev Refuses : State → Error → State → Type 0
@@ -58,68 +64,52 @@ module _ {V : Type 0} (r : Reading V) where
           let t = top h.seen v b h.read in n.1.0.0 (sym s.place ∙ t.1) (sym s.saved ∙ t.2) (sym (still_among s) ∙ t.3))) (q.named i)
       by_error (Some d) i = inr (λ v b h. (let g = (seen_reading r).going st v b h in absurd (cc)))
 
-  -- it was refused behind the look
-  pub group_refused : {A : Type 0} {a : Bool} (p : State → A → State → Type 0) (f : State → Located → Type 0) (st : State) (o : Option ℕ)
-      (here : State) (e : Error) (new : State) → PeeksSection st o here → (a ≡ true → r.takes_memory ≡ true)
-      → ((x : Located) → f here x → r.fault here x) → (NoneStands p here → NoneStands r.reads here) → RefusesAt a p f here e new
-      → Refuses st e new
-  group_refused p f st o here e new k may named none q =
-      let alike = peeked_alike st o here k in
+  -- it was read, or refused, without a further look
+  pub read_here : (st : State) (v : V) (b : State) → r.reads st v b → SeenReads r st v b
+  read_here st v b h = record { seen = st; alike = refl; read = h }
+
+  pub refused_here : {A : Type 0} {a : Bool} (p : State → A → State → Type 0) (f : State → Located → Type 0) (st : State) (e : Error)
+      (new : State) → (a ≡ true → r.takes_memory ≡ true) → ((x : Located) → f st x → r.fault st x)
+      → (NoneStands p st → NoneStands r.reads st) → RefusesAt a p f st e new → Refuses st e new
+  refused_here p f st e new may named none q =
+      refused_first p f (SeenReads r) (SeenFault r) st e new may (λ x n. record { seen = st; alike = refl; fault = named x n })
+      (λ n v b h. (let m = read_behind r st h.seen st v b h.alike refl h.read in none n v (looking m.0 b) m.1)) q
+
+  -- by an error of its own
+  pub kept_here : (st : State) (error e : Error) (new : State) → IsAtTop st
+      → r.fault st (record { error = error; left = length st.rest }) → NoneStands r.reads st → RefusesBy error st e new
+      → StandsHere st new → Refuses st e new
+  kept_here st error e new top named none refused at = record {
+    kept = first_kept {st = st} top.0 refused;
+    again = λ d x. (let g = top.0 in absurd (cc));
+    named = λ g. inr (
+      length st.rest,
+      record {
+        seen = st;
+        alike = refl;
+        fault = subst (λ x. r.fault st (record { error = x; left = length st.rest })) (sym (refused top.0).0) named;
+      },
+      at top.0,
+    );
+    none = inr (λ v b h. (let m = read_behind r st h.seen st v b h.alike refl h.read in none v (looking m.0 b) m.1));
+  }
+
+  -- it was read, or refused, behind a look
+  pub behind : (st here : State) (x : Result V Error) (new : State) → IsAtTop st → AreAlike st here
+      → AnswersAt r.takes_memory (SeenReads r) (SeenFault r) here x new → AnswersAt r.takes_memory (SeenReads r) (SeenFault r) st x new
+  behind st here (Ok v) new top alike h =
+      record { seen = h.seen; alike = alike_trans st here h.seen alike h.alike; read = h.read }
+  behind st here (Err e) new top alike q =
       let s = alike_stays st here alike in
       record {
         kept = answered_later s.sound q.kept;
-        again = λ d x. (let g = k.going in absurd (cc));
+        again = λ d x. (let g = top.0 in absurd (cc));
         named = λ g.
-            or_else (excused_as e new may)
-            (placed_later {g = SeenFault r st} st here new s.sound (λ x n. record { seen = here; alike = alike; fault = named x n }))
-            (q.named (s.error ∙ k.going));
-        none = or_else (excused_as e new may)
+            or_else (excused_as e new (λ z. z))
+            (placed_later {f = SeenFault r here} {g = SeenFault r st} st here new s.sound
+            (λ x f. record { seen = f.seen; alike = alike_trans st here f.seen alike f.alike; fault = f.fault }))
+            (q.named (s.error ∙ top.0));
+        none = or_else (excused_as e new (λ z. z))
             (λ n v b h.
-            (let m = read_behind r st h.seen here v b h.alike alike h.read in none n v (looking m.0 b) m.1)) q.none;
+            n v b (record { seen = h.seen; alike = alike_trans here st h.seen (alike_sym st here alike) h.alike; read = h.read })) q.none;
       }
-
-  -- by an error of its own
-  pub kept_refused : (st : State) (o : Option ℕ) (here : State) (error e : Error) (new : State) → PeeksSection st o here
-      → r.fault here (record { error = error; left = length here.rest }) → NoneStands r.reads here → RefusesBy error here e new
-      → StandsHere here new → Refuses st e new
-  kept_refused st o here error e new k named none refused at =
-      let alike = peeked_alike st o here k in
-      let s = alike_stays st here alike in
-      let going = s.error ∙ k.going in
-      record {
-        kept = answered_later s.sound (first_kept {st = here} going refused);
-        again = λ d x. (let g = k.going in absurd (cc));
-        named = λ g. inr (
-          length here.rest,
-          record {
-            seen = here;
-            alike = alike;
-            fault = subst (λ x. r.fault here (record { error = x; left = length here.rest })) (sym (refused going).0) named;
-          },
-          before_later st here (length here.rest) new s.sound (at going),
-        );
-        none = inr (λ v b h.
-            (let m = read_behind r st h.seen here v b h.alike alike h.read in none v (looking m.0 b) m.1));
-      }
-
-  pub group_read : (st : State) (o : Option ℕ) (here : State) (v : V) (b : State) → PeeksSection st o here → r.reads here v b
-      → SeenReads r st v b
-  group_read st o here v b k h = record { seen = here; alike = peeked_alike st o here k; read = h }
-
-  -- it was read, or refused, behind the look
-  pub group_answered : (p : State → V → State → Type 0) (f : State → Located → Type 0) (st : State) (o : Option ℕ) (here : State)
-      (x : Result V Error) (new : State) → PeeksSection st o here → r.takes_memory ≡ true → ((x : Located) → f here x → r.fault here x)
-      → ((v : V) (b : State) → p here v b → r.reads here v b) → (NoneStands p here → NoneStands r.reads here)
-      → AnswersAt true p f here x new → AnswersAt r.takes_memory (SeenReads r) (SeenFault r) st x new
-  group_answered p f st o here (Ok v) new k takes named reads none h = group_read st o here v new k (reads v new h)
-  group_answered p f st o here (Err e) new k takes named reads none h =
-      group_refused p f st o here e new k (λ _. takes) named none h
-
--- what a comparison of codes that aren't equal tells
-pub was_false : (b : Bool) → true ≡ not b → false ≡ b
-was_false true h = sym h
-was_false false h = refl
-
-pub was_true : (b : Bool) → false ≡ not b → true ≡ b
-was_true true h = refl
-was_true false h = sym h

@@ -81,14 +81,7 @@ impl<T: DeserializeTerm> Deserialize for Body<T> {
         alloc: Global,
     ) -> Result<Body<T>, Error> {
         match decoder.peek_section()? {
-            Some(section_code::DATA) => Ok(Body::Data(Batch::deserialize(decoder, alloc)?)),
-            Some(section_code::AMQP_SEQUENCE) => Ok(Body::Sequence(Batch::deserialize(
-                decoder, alloc,
-            )?)),
-            Some(section_code::AMQP_VALUE) => Ok(Body::Value(AmqpValue::read_value(
-                decoder, alloc,
-            )?)),
-            Some(_code) => Err(decoder.refuse(Error::WrongDescriptor)),
+            Some(code) => Body::read_group(code, decoder, alloc),
             None => Err(no_section(decoder, alloc)),
         }
     }
@@ -124,10 +117,18 @@ impl<T: DeserializeTerm> DeserializableBody for Body<T> {
     ghost faults = { IsBodyFault ⟦<Data as DeserializeTerm>⟧.term ⟦<AmqpSequence<T> as DeserializeTerm>⟧.term };
 
     fn read_group<R: ByteSource>(
+        code: u8,
         decoder: &mut Decoder<R>,
         alloc: Global,
     ) -> Result<Body<T>, Error> {
-        Body::deserialize(decoder, alloc)
+        match code {
+            section_code::DATA => Ok(Body::Data(Batch::read_group(code, decoder, alloc)?)),
+            section_code::AMQP_SEQUENCE => Ok(Body::Sequence(Batch::read_group(
+                code, decoder, alloc,
+            )?)),
+            section_code::AMQP_VALUE => Ok(Body::Value(AmqpValue::read_value(decoder, alloc)?)),
+            _ => Err(decoder.refuse(Error::WrongDescriptor)),
+        }
     }
 
     ghost is_read = { any_body_is_read ⟦<AmqpValue<T> as DeserializeTerm>⟧.term ⟦<Data as DeserializeTerm>⟧.term ⟦<AmqpSequence<T> as DeserializeTerm>⟧.term };

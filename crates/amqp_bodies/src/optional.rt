@@ -23,10 +23,11 @@ where
     ghost faults = { B.faults };
 
     fn read_group<R: ByteSource>(
+        code: u8,
         decoder: &mut Decoder<R>,
         alloc: Global,
     ) -> Result<Option<B>, Error> {
-        Ok(Some(B::read_group(decoder, alloc)?))
+        Ok(Some(B::read_group(code, decoder, alloc)?))
     }
 
     ghost is_read = { there_is_read B.is_read };

@@ -30,7 +30,7 @@ use crate::traits::{
     BodySection, CanonicalBody, DeserializableBody, FromBody, FromEmptyBody, SerializableBody,
     ValueBody,
 };
-use amqp_batches::{Batch, BatchItem, TransparentVec};
+use amqp_batches::{BatchItem, TransparentVec, read_run};
 use amqp_codec::{Deserialize, DeserializeTerm, Serialize, SerializeTerm};
 use amqp_decoder::Decoder;
 use amqp_sections::{AmqpSequence, AmqpValue, Data};
@@ -78,6 +78,7 @@ impl<T: DeserializeTerm> DeserializableBody for AmqpValue<T> {
     ghost faults = { IsNoTerm };
 
     fn read_group<R: ByteSource>(
+        _code: u8,
         decoder: &mut Decoder<R>,
         alloc: Global,
     ) -> Result<AmqpValue<T>, Error> {
@@ -97,6 +98,7 @@ impl<T: DeserializeTerm> DeserializableBody for AmqpSequence<T> {
     ghost faults = { IsNoTerm };
 
     fn read_group<R: ByteSource>(
+        _code: u8,
         decoder: &mut Decoder<R>,
         alloc: Global,
     ) -> Result<AmqpSequence<T>, Error> {
@@ -115,7 +117,11 @@ impl DeserializableBody for Data {
 
     ghost faults = { IsNoTerm };
 
-    fn read_group<R: ByteSource>(decoder: &mut Decoder<R>, alloc: Global) -> Result<Data, Error> {
+    fn read_group<R: ByteSource>(
+        _code: u8,
+        decoder: &mut Decoder<R>,
+        alloc: Global,
+    ) -> Result<Data, Error> {
         Data::read_value(decoder, alloc)
     }
 
@@ -132,13 +138,15 @@ impl<T: BatchItem + DeserializeTerm> DeserializableBody for TransparentVec<T> {
     ghost faults = { IsSectionFault T.code (IsRunFault T.code T.term) };
 
     fn read_group<R: ByteSource>(
+        code: u8,
         decoder: &mut Decoder<R>,
         alloc: Global,
     ) -> Result<TransparentVec<T>, Error> {
-        if decoder.peek_section()? != Some(T::code()) {
-            return Err(decoder.refuse(Error::WrongDescriptor));
+        if code == T::code() {
+            Ok(TransparentVec::new(read_run(decoder, alloc)?))
+        } else {
+            Err(decoder.refuse(Error::WrongDescriptor))
         }
-        Batch::deserialize(decoder, alloc)
     }
 
     ghost is_read = { seen_is_read (section_is_read T.code (batch_is_read T.code T.term)) };

@@ -7,6 +7,7 @@ ghost use Rattle.amqp_wire.specs.declared.error.Error.TheVariants.{Memory, Empty
 ghost use Rattle.amqp_decoder.specs.Places.{AnswersAt};
 ghost use Rattle.amqp_decoder.specs.Steps.{Tries};
 ghost use Rattle.amqp_codec.specs.Reading.{Reading};
+ghost use Rattle.amqp_batches.specs.Walk.{IsNext};
 ghost use Rattle.amqp_batches.specs.Spellings.{Spells};
 ghost use Rattle.amqp_batches.specs.SpellingFaults.{Faults};
 ghost use Rattle.amqp_batches.specs.laws.ReadAs.{IsReadAs};
@@ -66,10 +67,16 @@ pub trait DeserializableBody: BodySection + Sized + Drop {
 
     ghost faults: { Faults };
 
-    /// Reads a group of its sections, if a section of a body comes next: one section, or those of one kind that come one after another. It
-    /// returns `WrongDescriptor` for another section, and otherwise the errors of a section.
-    fn read_group<R: ByteSource>(decoder: &mut Decoder<R>, alloc: Global) -> Result<Self, Error>
-        ensures read { Tells R.remaining → AnswersAt group.takes_memory group.reads group.fault decoder.old result decoder.new }
+    /// Reads a group of its sections: one section, or those of one kind that come one after another. The caller has looked at what comes next:
+    /// a section with this code. It returns `WrongDescriptor` if no group of this type begins with such a section, and otherwise the errors
+    /// of a section.
+    fn read_group<R: ByteSource>(
+        code: u8,
+        decoder: &mut Decoder<R>,
+        alloc: Global,
+    ) -> Result<Self, Error>
+        ensures read { Tells R.remaining → IsNext code decoder.old
+            → AnswersAt group.takes_memory group.reads group.fault decoder.old result decoder.new }
         ensures tries { Tries group.takes_memory decoder.old result decoder.new };
 
     // What is read is what the bytes spell, and the fault that is reported is theirs.

@@ -1,10 +1,9 @@
 //! Batches and bodies by themselves (Part 3, sections 3.2.6 to 3.2.8). The digits are written out by the standard's tables.
-use crate::parts::read_and_written;
 use amqp_batches::Batch;
 use amqp_bodies::Body;
 use amqp_codec::Error;
 use amqp_sections::{AmqpSequence, Data};
-use amqp_test_helpers::check_refused;
+use amqp_test_helpers::{check_refused, read_and_written};
 use amqp_values::Value;
 use std::test::Fail;
 

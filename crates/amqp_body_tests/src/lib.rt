@@ -5,6 +5,5 @@
 mod batches;
 #[cfg(test)]
 mod bodies;
-pub mod parts;
 #[cfg(test)]
 mod plain;

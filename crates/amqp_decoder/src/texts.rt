@@ -157,21 +157,6 @@ impl<R: ByteSource> Decoder<R> {
         }
     }
 
-    // The same of a value, plain or in an array.
-    #[inline(always)]
-    fn quick_len(&mut self, narrow: u8, wide: u8) -> Option<u32>
-        requires narrow { 0 < narrow }
-        requires wide { 0 < wide }
-        ensures none { result ≡ None → self.new ≡ self.old }
-        ensures read { IfSome result (λ n. Tells R.remaining → ReadsLen narrow wide self.old n self.new) }
-        ensures began { IfSome result (λ _. Began self.old self.new) }
-    {
-        match self.plain_len(narrow, wide) {
-            Some(len) => Some(len),
-            None => self.element_len(narrow, wide),
-        }
-    }
-
     // The content of a value that has these two constructors, wherever it refuses.
     #[inline(always)]
     fn content(&mut self, narrow: u8, wide: u8, alloc: Global) -> Result<Vec<u8>, Error>
@@ -181,10 +166,25 @@ impl<R: ByteSource> Decoder<R> {
         ensures err { Tells R.remaining → IfErr result (λ e. AnswersFault true (TextFault narrow wide) self.old e self.new) }
         ensures tries { Tries true self.old result self.new }
     {
-        match self.quick_len(narrow, wide) {
+        match self.plain_len(narrow, wide) {
             Some(len) => self.bytes_of(len, alloc),
-            None => self.any_content(narrow, wide, alloc),
+            None => self.element_content(narrow, wide, alloc),
         }
+    }
+
+    // The same of an array's item, or however the source gives it.
+    #[inline(never)]
+    fn element_content(&mut self, narrow: u8, wide: u8, alloc: Global) -> Result<Vec<u8>, Error>
+        requires narrow { 0 < narrow }
+        requires wide { 0 < wide }
+        ensures ok { Tells R.remaining → IfOk result (λ text. ReadsText narrow wide self.old text.items self.new) }
+        ensures err { Tells R.remaining → IfErr result (λ e. AnswersFault true (TextFault narrow wide) self.old e self.new) }
+        ensures tries { Tries true self.old result self.new }
+    {
+        if let Some(len) = self.element_len(narrow, wide) {
+            return self.bytes_of(len, alloc);
+        }
+        self.any_content(narrow, wide, alloc)
     }
 
     // The same, however the source gives it.

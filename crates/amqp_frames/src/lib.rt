@@ -6,8 +6,6 @@ mod body;
 mod body_error;
 mod deliveries;
 mod delivery_error;
-#[cfg(test)]
-mod delivery_tests;
 mod frame_error;
 mod frame_header;
 mod frames;
@@ -16,8 +14,6 @@ mod pieces;
 mod protocol_header;
 mod sasl_frame;
 mod split_error;
-#[cfg(test)]
-mod tests;
 mod write_error;
 mod writing;
 

@@ -1,12 +1,11 @@
 //! Messages in any order and in the standard's (Part 3, section 3.2). The digits are written out by the standard's tables.
 use amqp_batches::Batch;
 use amqp_bodies::{Body, CanonicalBody, FromBody};
-use amqp_body_tests::parts::read_and_written;
 use amqp_codec::Error;
 use amqp_messages::{Message, Strict, canonical_text_strict, decode_message_strict};
 use amqp_read_write::from_slice_counted;
 use amqp_sections::{AmqpSequence, AmqpValue, Data};
-use amqp_test_helpers::check_refused;
+use amqp_test_helpers::{check_refused, read_and_written};
 use amqp_values::Value;
 use std::alloc::Global;
 use std::test::Fail;

@@ -14,8 +14,9 @@ use Rattle.amqp_codec.specs.Reading.{AreAlike}
 use Rattle.amqp_codec.proofs.Tries.{began_passed}
 use Rattle.amqp_codec.specs.laws.Refusal.{NoneStands, or_else}
 use Rattle.amqp_batches.specs.laws.State.{still_among, alike_stays, alike_rest, alike_trans}
-use Rattle.amqp_batches.specs.Walk.{IsAtTop, Walk, Steps, Walked, WalkFault, in_step}
+use Rattle.amqp_batches.specs.Walk.{IsAtTop, IsNext, Walk, Steps, Walked, WalkFault, in_step}
 use Rattle.amqp_batches.specs.laws.Walk.{steps_top}
+use Rattle.amqp_batches.proofs.Exits.{began_later}
 use Rattle.amqp_batches.proofs.WalkSteps.{SoFar, so_far_stays, top_fault, none_walked, step_made, step_refused, finished, ran_out, unmade}
 use Rattle.amqp_messages.specs.declared.order.Order.{Order}
 use Rattle.amqp_messages.specs.declared.order.Order.TheVariants.{Any, Written}
@@ -121,6 +122,9 @@ module _ {S B : Type 0} (o : Order) (made : Made S B) where
   top_there m mid c here f =
       let s = alike_stays mid here f.alike in (s.error ∙ f.top.0, s.place ∙ f.top.1, s.saved ∙ f.top.2, still_among s ∙ f.top.3)
 
+  pub next_there : (m : M) (mid : State) (c : ℕ) (here : State) → FoundThere m mid c here → IsNext c here
+  next_there m mid c here f = (top_there m mid c here f, f.ahead)
+
   -- one more group was read
   pub group_next : (st : State) (m x : M) (mid : State) (c : ℕ) (here b : State) → SoFar w st m mid → FoundThere m mid c here
       → x.left ≡ further o m.left (behind_section c) → AnswersGroup (seven S) rs c m.part x.part here (Ok tt) b → SoFar w st x b
@@ -206,9 +210,6 @@ passed_on a b c h k = (
   (k.0.0 ∙ h.0.0, k.0.1 ∙ h.0.1),
   λ d x. (let same = h.1 d x in k.1 d (ap (λ (s : State). s.error) same ∙ x) ∙ same),
 )
-
-pub began_later : (a b c : State) → Passed a b → Began b c → Began a c
-began_later a b c h k = (sym h.0.0 ∙ k.0, k.1, k.2 ∙ h.0.1)
 
 -- one call at least was asked of a decoder that had kept no error
 pub all_began : (o : Order) (left : ℕ) (a b c : State) → Passed a b → (left ≡ 7) ⊎ Began a b → Passed b c

@@ -3,9 +3,8 @@ ghost use Rattle.amqp_wire.specs.Sources.{Tells};
 ghost use Rattle.amqp_decoder.specs.Places.{AnswersAt};
 ghost use Rattle.amqp_decoder.specs.Steps.{Tries};
 ghost use Rattle.std.specs.Prelude.{◌≡◌, ◌⊎◌, IfOk, IfErr, true};
-ghost use Rattle.amqp_batches.specs.Walk.{Walked, WalkFault};
+ghost use Rattle.amqp_batches.specs.Walk.{IsNext, Walked, WalkFault};
 ghost use Rattle.amqp_batches.specs.WalkReading.{walk_reading};
-ghost use Rattle.amqp_messages.specs.KindsReading.{has};
 ghost use Rattle.amqp_messages.specs.MessageWalk.{message_walk};
 ghost use Rattle.amqp_messages.specs.Kinds.{nothing};
 ghost use Rattle.amqp_messages.specs.MessageKinds.{seven, IsMadeOf};
@@ -45,17 +44,18 @@ fn put_section<T: DeserializeTerm, R: ByteSource>(
     }
 }
 
-// Reads a group of the body's sections, which replaces an earlier one.
+// Reads a group of the body's sections, which begins with a section of this code. It replaces an earlier one.
 #[inline(never)]
 fn put_body<B: FromBody, R: ByteSource>(
+    code: u8,
     place: &mut Option<B::Body>,
     decoder: &mut Decoder<R>,
     alloc: Global,
 ) -> Result<(), Error>
-    ensures read { Tells R.remaining → AnswersPut B.made.group place.new decoder.old result decoder.new }
+    ensures read { Tells R.remaining → IsNext code decoder.old → AnswersPut B.made.group place.new decoder.old result decoder.new }
     ensures tries { Tries true decoder.old result decoder.new }
 {
-    match B::Body::read_group(decoder, alloc) {
+    match B::Body::read_group(code, decoder, alloc) {
         Ok(body) => {
             *place = Some(body);
             Ok(())
@@ -87,8 +87,8 @@ impl<S: Drop> Groups<S> {
         decoder: &mut Decoder<R>,
         alloc: Global,
     ) -> Result<(), Error>
-        ensures read { Tells R.remaining → has (seven S) code ≡ true → AnswersGroup (seven S) (readings_of B.made.group) code (fields_in self.old)
-            (fields_in self.new) decoder.old result decoder.new }
+        ensures read { Tells R.remaining → IsNext code decoder.old → AnswersGroup (seven S) (readings_of B.made.group) code
+            (fields_in self.old) (fields_in self.new) decoder.old result decoder.new }
         ensures tries { Tries true decoder.old result decoder.new }
     {
         match code {
@@ -110,7 +110,7 @@ impl<S: Drop> Groups<S> {
                 alloc,
             ),
             section_code::FOOTER => put_section(&mut self.footer, decoder, alloc),
-            _ => put_body::<B, R>(&mut self.body, decoder, alloc),
+            _ => put_body::<B, R>(code, &mut self.body, decoder, alloc),
         }
     }
 

@@ -9,4 +9,6 @@ pub use values::{
     are_equal, hash_of, have_equal_hashes, is, is_copied, is_given_back, is_less, is_made,
     is_refused, is_taken,
 };
-pub use written::{check_made, check_refused, check_written, is_read, read, refusal};
+pub use written::{
+    check_made, check_refused, check_written, is_read, read, read_and_written, refusal,
+};

@@ -1,11 +1,10 @@
 use Rattle.std.proofs.Common.{inr, true}
 use Rattle.std.proofs.lemmas.Result.{err_from_is_err_and}
 use Rattle.amqp_codec.proofs.Tries.{taking_some, refused_later, passed_then}
-use Rattle.amqp_batches.proofs.Exits.{refused_at}
+use Rattle.amqp_batches.proofs.Exits.{began_later, refused_at}
 use Rattle.amqp_messages.specs.Messages.{fields_in}
-use Rattle.amqp_messages.specs.laws.SectionCodes.{has_ahead}
 use Rattle.amqp_messages.proofs.MessageSteps.{next_refused, found_there, group_refused, group_next, found_none, message_made}
-use Rattle.amqp_messages.proofs.MessageSteps.{message_refused, found_as, nothing_found, passed_on, began_later, all_began}
+use Rattle.amqp_messages.proofs.MessageSteps.{next_there, message_refused, found_as, nothing_found, passed_on, all_began}
 use Rattle.amqp_messages.proofs.read.read_message.Goals as goal
 
 pub returns-in_err-code-clause-read : goal.returns-in_err-code-clause-read
@@ -28,7 +27,7 @@ returns-in_err-read_group-clause-read g c tells =
     (found_as c.args.order _ _ _ c.in-Some.is (c.in_ok-code.ensures.read tells)) in
     refused_at c.from_residual-in_err-read_group.result c.from_residual-in_err-read_group.ensures.1
     (group_refused c.args.order made _ _ _ c.in-Some.code _ _ _ (c.loop-groups.invariant.so_far tells) there
-    (c.in_err-read_group.ensures.read tells (has_ahead _ _ there.ahead)))
+    (c.in_err-read_group.ensures.read tells (next_there c.args.order made _ _ _ _ there)))
 
 pub returns-in_err-read_group-clause-tries : goal.returns-in_err-read_group-clause-tries
 returns-in_err-read_group-clause-tries g c =
@@ -48,7 +47,7 @@ loop-groups-preserved g c =
           (let there = found_there c.args.order made _ _ c.in-Some.code _
           (found_as c.args.order _ _ _ c.in-Some.is (c.in_ok-code.ensures.read tells)) in
           group_next c.args.order made _ _ (record { left = c.further-left.result; part = fields_in c.read_group.new.self }) _ c.in-Some.code _ _
-          (c.loop-groups.invariant.so_far tells) there c.further-left.ensures (c.in_ok-read_group.ensures.read tells (has_ahead _ _ there.ahead)));
+          (c.loop-groups.invariant.so_far tells) there c.further-left.ensures (c.in_ok-read_group.ensures.read tells (next_there c.args.order made _ _ _ _ there)));
       passed = passed_then c.args.decoder.now c.next_section.new.decoder c.read_group.new.decoder before c.in_ok-read_group.ensures.tries;
       began = inr (began_later c.args.decoder.now c.next_section.new.decoder c.read_group.new.decoder before c.in_ok-read_group.ensures.tries);
     }

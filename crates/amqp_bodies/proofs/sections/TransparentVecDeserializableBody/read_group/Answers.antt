@@ -1,45 +1,43 @@
-use Rattle.std.proofs.Common.{true, false, refl}
+use Rattle.std.proofs.Common.{refl, sym, ◌∙◌, subst}
 use Rattle.std.proofs.lemmas.Result.{err_from_is_err_and}
 use Rattle.amqp_wire.specs.declared.error.Error.TheVariants.{WrongDescriptor}
+use Rattle.amqp_lookahead.specs.Sections.{IsSectionAhead}
+use Rattle.amqp_lookahead.proofs.SectionsAhead.{one_ahead}
 use Rattle.amqp_codec.specs.TermReading.{reading_of}
-use Rattle.amqp_codec.proofs.Tries.{taking_some, refused_more, tries_behind}
+use Rattle.amqp_batches.specs.Walk.{IsNext, Walked, WalkFault}
+use Rattle.amqp_batches.specs.Runs.{run_walk}
 use Rattle.amqp_batches.specs.Batches.{batch_reading}
-use Rattle.amqp_batches.specs.SectionGroups.{run_reading, not_top, in_run, other_section}
-use Rattle.amqp_batches.proofs.RunSteps.{code_is, code_is_not}
-use Rattle.amqp_bodies.proofs.PeekSteps.{peek_refused, kept_refused, group_answered, ahead_here, none_here, was_false, was_true}
+use Rattle.amqp_batches.specs.SectionGroups.{run_reading, in_run, other_section}
+use Rattle.amqp_batches.proofs.RunSteps.{refused_via}
+use Rattle.amqp_bodies.proofs.PeekSteps.{read_here, refused_here, kept_here}
 use Rattle.amqp_bodies.proofs.sections.TransparentVecDeserializableBody.read_group.Goals as goal
 
-pub returns-in_err-peek_section-clause-read : goal.returns-in_err-peek_section-clause-read
-returns-in_err-peek_section-clause-read g c tells =
-    let r = batch_reading g.T.BatchItem.code (reading_of g.T.DeserializeTerm.term) in
+pub returns-in_err-read_run-clause-read : goal.returns-in_err-read_run-clause-read
+returns-in_err-read_run-clause-read g c tells next =
+    let code = g.T.BatchItem.code in
+    let w = run_walk code (reading_of g.T.DeserializeTerm.term) in
+    let r = batch_reading code (reading_of g.T.DeserializeTerm.term) in
+    let n : IsNext code c.args.decoder.now = subst (λ k. IsNext k c.args.decoder.now) (c.if-code.true ∙ c.code.ensures) next in
     let p = err_from_is_err_and c.from_residual.result c.from_residual.ensures.1 in
     rw (p.1, p.2)
-    (peek_refused (run_reading g.T.BatchItem.code r) _ _ _ (λ x n. not_top n) (λ seen v b h. h.1.top) (c.in_err-peek_section.ensures.read tells))
+    (refused_here (run_reading code r) r.reads r.fault _ _ _ (λ _. refl) (λ x f. in_run n.1 f) (λ none v b h. none v b h.1)
+    (refused_via (λ st v b. Walked w st v.items b) (WalkFault w) (λ v. v.0) _ _ _ (c.in_err-read_run.ensures.read tells n)))
 
-pub returns-in_err-peek_section-clause-tries : goal.returns-in_err-peek_section-clause-tries
-returns-in_err-peek_section-clause-tries g c =
-    let p = err_from_is_err_and c.from_residual.result c.from_residual.ensures.1 in
-    rw (p.1, p.2) (refused_more false true c.args.decoder.now _ _ (taking_some _) c.in_err-peek_section.ensures.tries)
+pub returns-in_ok-read_run-clause-read : goal.returns-in_ok-read_run-clause-read
+returns-in_ok-read_run-clause-read g c tells next =
+    let code = g.T.BatchItem.code in
+    let w = run_walk code (reading_of g.T.DeserializeTerm.term) in
+    let r = batch_reading code (reading_of g.T.DeserializeTerm.term) in
+    let n : IsNext code c.args.decoder.now = subst (λ k. IsNext k c.args.decoder.now) (c.if-code.true ∙ c.code.ensures) next in
+    read_here (run_reading code r) _ _ _ (
+      n.1,
+      subst (λ v. Walked w c.args.decoder.now v.items c.read_run.new.decoder) (sym c.new.ensures) (c.in_ok-read_run.ensures.read tells n),
+    )
 
-pub returns-then-ne-clause-read : goal.returns-then-ne-clause-read
-returns-then-ne-clause-read g c tells =
+pub returns-else-code-clause-read : goal.returns-else-code-clause-read
+returns-else-code-clause-read g c tells next =
     let code = g.T.BatchItem.code in
     let r = batch_reading code (reading_of g.T.DeserializeTerm.term) in
-    let k = c.in_ok-peek_section.ensures.read tells in
-    let none = none_here _ _ _ code k (code_is_not _ _ _ c.code.ensures (was_false _ c.if-ne.ensures)) in
-    kept_refused (run_reading code r) _ _ _ WrongDescriptor _ _ k (other_section none refl refl) (λ v b h. none h.0) c.refuse.ensures.first
+    let none : IsSectionAhead c.args.decoder.now.rest code → ⊥ = λ h. c.if-code.false (one_ahead _ c.args.code code next.1 h ∙ sym c.code.ensures) in
+    kept_here (run_reading code r) _ WrongDescriptor _ _ next.0 (other_section none refl refl) (λ v b h. none h.0) c.refuse.ensures.first
     c.refuse.ensures.place
-
-pub returns-clause-read : goal.returns-clause-read
-returns-clause-read g c tells =
-    let code = g.T.BatchItem.code in
-    let r = batch_reading code (reading_of g.T.DeserializeTerm.term) in
-    let k = c.in_ok-peek_section.ensures.read tells in
-    let a = ahead_here _ _ _ code k (code_is _ _ _ c.code.ensures (was_true _ c.if-ne.ensures)) in
-    group_answered (run_reading code r) r.reads r.fault _ _ _ _ _ k refl (λ e f. in_run a f) (λ v b h. (a, h)) (λ n v b h. n v b h.1)
-    (c.deserialize.ensures.read tells)
-
-pub returns-clause-tries : goal.returns-clause-tries
-returns-clause-tries g c =
-    tries_behind true true c.args.decoder.now c.peek_section.new.self c.deserialize.result c.deserialize.new.decoder (taking_some _)
-    c.in_ok-peek_section.ensures.tries c.deserialize.ensures.tries

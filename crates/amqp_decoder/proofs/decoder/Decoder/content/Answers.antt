@@ -11,4 +11,4 @@ returns-in-Some-clause-err g c = λ told.
     err_map _ _ _ (λ e s. quick_text_cut _ _ _ _ _ _ _ (c.in-Some.ensures.read told) s) (c.bytes_of.ensures.err told)
 
 pub returns-in-Some-clause-tries : goal.returns-in-Some-clause-tries
-returns-in-Some-clause-tries g c = tried_second _ _ c.quick_len.new.self _ _ c.in-Some.ensures.began c.bytes_of.ensures.goes
+returns-in-Some-clause-tries g c = tried_second _ _ c.plain_len.new.self _ _ c.in-Some.ensures.began c.bytes_of.ensures.goes

@@ -1,5 +1,5 @@
 //! Tests of deliveries that are joined, and of messages that are split.
-use crate::{Deliveries, Delivery, DeliveryError, Joined, Piece, SplitError, split};
+use amqp_frames::{Deliveries, Delivery, DeliveryError, Joined, Piece, SplitError, split};
 use amqp_performatives::Transfer;
 use amqp_restricted_types::{DeliveryTag, Handle};
 use std::alloc::{AllocError, Global};

@@ -1,10 +1,10 @@
 //! Tests: bytes of the standard's layout for each outcome, and printed text.
-use crate::{
+use amqp_attach::Performative;
+use amqp_frames::{
     AmqpBody, BodyError, BodyFault, Frame, FrameError, FrameHeader, FrameKind, HeaderStep,
     ProtocolHeader, ProtocolId, SaslFrame, Step, WriteError, next_frame, next_protocol_header,
     write_empty_frame, write_frame, write_sasl_frame,
 };
-use amqp_attach::Performative;
 use amqp_read_write::from_slice;
 use amqp_wire::{Error, Limits};
 use std::alloc::Global;
