@@ -74,51 +74,50 @@ module _ {T : Type 0} (rv : Reading (AmqpValue T)) (rd : Reading (TransparentVec
   value_refused st e new n q =
       refused_here r rv.reads rv.fault st e new (λ _. refl) (λ x f. in_value n.1 f) (only_value st n.1) q
 
-  -- sections of data
+  -- sections of one kind: a body is made of what they are read as, and has their faults
+  module _ {A : Type 0} (c : ℕ) (ra : Reading (TransparentVec A)) (make : TransparentVec A → Body T)
+      (as_read : (here : State) (v : TransparentVec A) (b : State) → IsAtTop here → IsSectionAhead here.rest c → ra.reads here v b
+      → Reads here (make v) b)
+      (as_fault : (here : State) (x : Located) → IsSectionAhead here.rest c → ra.fault here x → BodyFault rv rd rs here x)
+      (only : (here : State) → IsSectionAhead here.rest c → NoneStands ra.reads here → NoneStands Reads here) where
+    pub run_read : (st : State) (v : TransparentVec A) (b : State) → IsNext c st → SeenReads (run_reading c ra) st v b
+        → SeenReads r st (make v) b
+    run_read st v b n h =
+        let k = still_next st h.seen c h.alike n in
+        record { seen = h.seen; alike = h.alike; read = as_read h.seen v b k.0 k.1 h.read.1 }
+
+    run_fault : (here : State) (x : Located) → IsNext c here → RunFault c ra here x → BodyFault rv rd rs here x
+    run_fault here x k (run.not_top t) = not_top t
+    run_fault here x k (run.in_run a f) = as_fault here x a f
+    run_fault here x k (run.other_section none i p) = absurd (none k.1)
+
+    pub run_refused : (st : State) (e : Error) (new : State) → IsNext c st
+        → RefusesAt ra.takes_memory (SeenReads (run_reading c ra)) (SeenFault (run_reading c ra)) st e new
+        → RefusesAt true (SeenReads r) (SeenFault r) st e new
+    run_refused st e new n q =
+        refused_first (SeenReads (run_reading c ra)) (SeenFault (run_reading c ra)) (SeenReads r) (SeenFault r) st e new (λ _. refl)
+        (λ x f. record { seen = f.seen; alike = f.alike; fault = run_fault f.seen x (still_next st f.seen c f.alike n) f.fault })
+        (λ none v b k.
+        (let a = (still_next st k.seen c k.alike n).1 in
+        only k.seen a (λ w d h. none w d (record { seen = k.seen; alike = k.alike; read = (a, h) })) v b k.read)) q
+
   pub data_read : (st : State) (v : TransparentVec DataSection) (b : State) → IsNext 0x75 st → SeenReads (run_reading 0x75 rd) st v b
       → SeenReads r st (Data v) b
-  data_read st v b n h = record { seen = h.seen; alike = h.alike; read = ((still_next st h.seen 0x75 h.alike n).0, h.read) }
-
-  data_fault : (st : State) (x : Located) → IsNext 0x75 st → SeenFault (run_reading 0x75 rd) st x → SeenFault r st x
-  data_fault st x n h = record { seen = h.seen; alike = h.alike; fault = as_body h.seen (still_next st h.seen 0x75 h.alike n) h.fault }
-    where
-      as_body : (here : State) → IsNext 0x75 here → RunFault 0x75 rd here x → BodyFault rv rd rs here x
-      as_body here k (run.not_top t) = not_top t
-      as_body here k (run.in_run a f) = in_data a f
-      as_body here k (run.other_section none i p) = absurd (none k.1)
+  data_read = run_read 0x75 rd Data (λ here v b t a h. (t, (a, h))) (λ here x a f. in_data a f) only_data
 
   pub data_refused : (st : State) (e : Error) (new : State) → IsNext 0x75 st
       → RefusesAt rd.takes_memory (SeenReads (run_reading 0x75 rd)) (SeenFault (run_reading 0x75 rd)) st e new
       → RefusesAt true (SeenReads r) (SeenFault r) st e new
-  data_refused st e new n q =
-      refused_first (SeenReads (run_reading 0x75 rd)) (SeenFault (run_reading 0x75 rd)) (SeenReads r) (SeenFault r) st e new (λ _. refl)
-      (λ x f. data_fault st x n f)
-      (λ none v b k.
-      (let a = (still_next st k.seen 0x75 k.alike n).1 in
-      only_data k.seen a (λ w c h. none w c (record { seen = k.seen; alike = k.alike; read = (a, h) })) v b k.read)) q
+  data_refused = run_refused 0x75 rd Data (λ here v b t a h. (t, (a, h))) (λ here x a f. in_data a f) only_data
 
-  -- sections of sequences
   pub sequence_read : (st : State) (v : TransparentVec (AmqpSequence T)) (b : State) → IsNext 0x76 st
       → SeenReads (run_reading 0x76 rs) st v b → SeenReads r st (Sequence v) b
-  sequence_read st v b n h = record { seen = h.seen; alike = h.alike; read = ((still_next st h.seen 0x76 h.alike n).0, h.read) }
-
-  sequence_fault : (st : State) (x : Located) → IsNext 0x76 st → SeenFault (run_reading 0x76 rs) st x → SeenFault r st x
-  sequence_fault st x n h = record { seen = h.seen; alike = h.alike; fault = as_body h.seen (still_next st h.seen 0x76 h.alike n) h.fault }
-    where
-      as_body : (here : State) → IsNext 0x76 here → RunFault 0x76 rs here x → BodyFault rv rd rs here x
-      as_body here k (run.not_top t) = not_top t
-      as_body here k (run.in_run a f) = in_sequence a f
-      as_body here k (run.other_section none i p) = absurd (none k.1)
+  sequence_read = run_read 0x76 rs Sequence (λ here v b t a h. (t, (a, h))) (λ here x a f. in_sequence a f) only_sequence
 
   pub sequence_refused : (st : State) (e : Error) (new : State) → IsNext 0x76 st
       → RefusesAt rs.takes_memory (SeenReads (run_reading 0x76 rs)) (SeenFault (run_reading 0x76 rs)) st e new
       → RefusesAt true (SeenReads r) (SeenFault r) st e new
-  sequence_refused st e new n q =
-      refused_first (SeenReads (run_reading 0x76 rs)) (SeenFault (run_reading 0x76 rs)) (SeenReads r) (SeenFault r) st e new (λ _. refl)
-      (λ x f. sequence_fault st x n f)
-      (λ none v b k.
-      (let a = (still_next st k.seen 0x76 k.alike n).1 in
-      only_sequence k.seen a (λ w c h. none w c (record { seen = k.seen; alike = k.alike; read = (a, h) })) v b k.read)) q
+  sequence_refused = run_refused 0x76 rs Sequence (λ here v b t a h. (t, (a, h))) (λ here x a f. in_sequence a f) only_sequence
 
   -- a section of another kind
   pub other_refused : (st : State) (c : ℕ) (e : Error) (new : State) → IsNext c st → (c ≡ 0x75 → ⊥) → (c ≡ 0x76 → ⊥) → (c ≡ 0x77 → ⊥)

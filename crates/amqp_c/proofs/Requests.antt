@@ -14,9 +14,3 @@ refused number given Has NoType h = h
 refused number given Has NoLimits h = h
 refused number given Has (Failed r) (named, within, is, inl memory) = (named, within, is, inl memory)
 refused number given Has (Failed r) (named, within, is, inr none) = absurd none
-
--- what is refused has a fault, and the fault its place
-pub refused_at : {X M A B : Type 0} → (X × M) ⊎ A → (X × M) ⊎ B → M ⊎ (A × B)
-refused_at (inl m) h = inl m.1
-refused_at (inr a) (inl m) = inl m.1
-refused_at (inr a) (inr b) = inr (a, b)

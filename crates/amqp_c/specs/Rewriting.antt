@@ -1,17 +1,15 @@
 -- What is read and rewritten as the type of a number, within limits that cross as numbers.
 use Rattle.std.specs.Prelude.{◌≡◌, ◌⊎◌, ◌<◌, ℕ, List, length}
-use Rattle.amqp_model.specs.Term.{Term}
 use Rattle.amqp_wire.specs.declared.error.Error.TheVariants.{Memory}
 use Rattle.amqp_wire.specs.declared.limits.Limits.{Limits}
 use Rattle.amqp_wire.specs.declared.refusal.Refusal.{Refusal}
-use Rattle.amqp_codec.specs.Reading.{Reading, BeginsWithin, IsUnreadableWithin, IsFaultyAt}
-use Rattle.amqp_lines.specs.Answers.{of_type, type_name, IsText}
+use Rattle.amqp_lines.specs.Answers.{type_name, IsText}
 use Rattle.amqp_lines.specs.Rows.{number_in}
 use Rattle.amqp_lines.specs.contracts.request.TypeName.{the_type}
 use Rattle.amqp_lines.specs.declared.request.TypeName.{TypeName}
 use Rattle.amqp_c.specs.Limits.{AreLimits}
+use Rattle.amqp_named_values.specs.Rewriting.{IsLengthOf, HasNoLength, HasNoText}
 use Rattle.amqp_c.specs.Outcomes.{done, no_room, failure_outcome}
-use Rattle.amqp_read_write.specs.Rewritten.{IsUnwrittenWithin}
 use Rattle.amqp_read_write.specs.Room.{StandsIn, HasNoRoom}
 use Rattle.amqp_c.specs.declared.limits.GivenLimits.{GivenLimits}
 use Rattle.amqp_c.specs.declared.outcome.Failure.{Failure}
@@ -30,33 +28,6 @@ IsNumberOf name number = (((named : TypeName) → type_name named ≡ name → �
 -- The number is the type's, and the given numbers are the limits.
 abbrev pub IsOf : ℕ → GivenLimits → TypeName → Limits → Type 0
 IsOf number given named within = HasNumber named number × AreLimits given within
-
--- So many bytes are taken by the one value that the input begins with within the limits.
-pub record IsLengthWithin {T : Type 0} (limits : Limits) (r : Reading T) (input : List ℕ) (n : ℕ) : Type 0 where
-  pub value : T
-  pub read : BeginsWithin limits r input value n
-  pub one : (w : T) (m : ℕ) → BeginsWithin limits r input w m → r.same value w × (n ≡ m)
-
--- The same of the type with that name.
-abbrev pub IsLengthOf : TypeName → Limits → List ℕ → ℕ → Type 0
-IsLengthOf = of_type (λ T reading canons limits input n. IsLengthWithin limits reading input n)
-
--- Within the limits the input begins with no value, and has the fault, at the place.
-abbrev pub IsUnreadableAt : {T : Type 0} → Limits → Reading T → List ℕ → Refusal → Type 0
-IsUnreadableAt limits r input refusal = IsUnreadableWithin limits r input refusal.error × IsFaultyAt limits r input refusal.error refusal.at
-
--- The same of the type with that name.
-abbrev pub HasNoLength : TypeName → Limits → List ℕ → Refusal → Type 0
-HasNoLength = of_type (λ T reading canons limits input refusal. IsUnreadableAt limits reading input refusal)
-
--- Within the limits there is no canonical text: the input begins with no value, and has the fault at the place; or the value that it begins
--- with can't be written.
-abbrev pub HasNoTextAt : {T : Type 0} → Limits → Reading T → (T → List Term) → List ℕ → Refusal → Type 0
-HasNoTextAt limits r canons input refusal = IsUnreadableAt limits r input refusal ⊎ IsUnwrittenWithin limits r canons input refusal.error
-
--- The same of the type with that name.
-abbrev pub HasNoText : TypeName → Limits → List ℕ → Refusal → Type 0
-HasNoText = of_type (λ T reading canons limits input refusal. HasNoTextAt limits reading canons input refusal)
 
 -- Why a call over a type fails: no type has the number, or the limits are none, or memory ran out, or the type's value has this fault.
 abbrev pub Fails : ℕ → GivenLimits → (TypeName → Limits → Refusal → Type 0) → Failure → Type 0

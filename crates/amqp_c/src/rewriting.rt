@@ -1,86 +1,15 @@
 //! Reading and rewriting as the type with a number.
-ghost use Rattle.std.specs.Prelude.{◌≡◌, ◌≤◌, ◌⊎◌, List, ℕ, length, IfOk, IfErr, OnErr};
-ghost use Rattle.amqp_wire.specs.declared.error.Error.TheVariants.{Memory};
-ghost use Rattle.amqp_lines.specs.Answers.{IsText};
-ghost use Rattle.amqp_read_write.specs.Rewritten.{IsRewrittenWithin};
+ghost use Rattle.std.specs.Prelude.{◌≡◌, List, ℕ, IfOk, IfErr, OnErr};
 ghost use Rattle.amqp_read_write.specs.Room.{IsPlaced};
 ghost use Rattle.amqp_c.specs.Outcomes.{IsPlacedIn};
-ghost use Rattle.amqp_c.specs.Rewriting.{IsLengthWithin, IsLengthOf, IsUnreadableAt, HasNoLength, HasNoTextAt, HasNoText, IsOf, Fails};
-ghost use Rattle.amqp_c.specs.Rewriting.{IsLength, FailsToRead, IsRewriting, FailsToRewrite};
+ghost use Rattle.amqp_c.specs.Rewriting.{IsOf, Fails, IsLength, FailsToRead, IsRewriting, FailsToRewrite};
 
 use crate::limits::GivenLimits;
 use crate::outcome::Failure;
-use amqp_lines::types::*;
-use amqp_lines::{TypeName, types};
-use amqp_read_write::{from_slice_located, write_into};
-use amqp_wire::Refusal;
-use fe2o3_amqp_types::codec::{Canonical, Deserialize, Limits};
+use amqp_lines::TypeName;
+use amqp_named_values::{len_of_value, text_of_value};
+use amqp_wire::Limits;
 use std::alloc::Global;
-
-// How many bytes the value takes that the input begins with, within the limits.
-fn len_within<T: Deserialize>(
-    input: &[u8],
-    limits: &Limits,
-    alloc: Global,
-) -> Result<usize, Refusal>
-    ensures found { IfOk result (λ n. IsLengthWithin limits.now T.reading input.now n) }
-    ensures refused { IfErr result (λ r. (r.error ≡ Memory) ⊎ IsUnreadableAt limits.now T.reading input.now r) }
-    ensures within { IfErr result (λ r. r.at ≤ length input.now) }
-{
-    let (_value, len) = from_slice_located::<T>(input, limits, alloc)?;
-    Ok(len)
-}
-
-// The same of the type that is named.
-fn len_of_value(
-    named: TypeName,
-    input: &[u8],
-    limits: &Limits,
-    alloc: Global,
-) -> Result<usize, Refusal>
-    ensures found { IfOk result (λ n. IsLengthOf named limits.now input.now n) }
-    ensures refused { IfErr result (λ r. (r.error ≡ Memory) ⊎ HasNoLength named limits.now input.now r) }
-    ensures within { IfErr result (λ r. r.at ≤ length input.now) }
-{
-    types!(named, len_within(input, limits, alloc))
-}
-
-// Writes the canonical text of the value that the input begins with, within the limits, to the start of the room. It returns the text's
-// length, and how many bytes the value takes. If there is no room for the text, or at an error, the room stays as it is.
-fn text_within<T: Canonical>(
-    input: &[u8],
-    room: &mut [u8],
-    limits: &Limits,
-    alloc: Global,
-) -> Result<(usize, usize), Refusal>
-    ensures text { IfOk result (λ r. (text : List ℕ) × IsRewrittenWithin limits.now T.reading T.writing.canons input.now text r.1
-        × IsPlaced text room.old room.new r.0) }
-    ensures refused { IfErr result (λ r. (r.error ≡ Memory) ⊎ HasNoTextAt limits.now T.reading T.writing.canons input.now r) }
-    ensures within { IfErr result (λ r. r.at ≤ length input.now) }
-    ensures kept { OnErr result (room.new ≡ room.old) }
-{
-    let (value, taken) = from_slice_located::<T>(input, limits, alloc)?;
-    match write_into(&value, room, alloc) {
-        Ok(len) => Ok((len, taken)),
-        Err(error) => Err(Refusal { error, at: 0 }),
-    }
-}
-
-// The same of the type that is named.
-fn text_of_value(
-    named: TypeName,
-    input: &[u8],
-    room: &mut [u8],
-    limits: &Limits,
-    alloc: Global,
-) -> Result<(usize, usize), Refusal>
-    ensures text { IfOk result (λ r. (text : List ℕ) × IsText limits.now named input.now text r.1 × IsPlaced text room.old room.new r.0) }
-    ensures refused { IfErr result (λ r. (r.error ≡ Memory) ⊎ HasNoText named limits.now input.now r) }
-    ensures within { IfErr result (λ r. r.at ≤ length input.now) }
-    ensures kept { OnErr result (room.new ≡ room.old) }
-{
-    types!(named, text_within(input, room, limits, alloc))
-}
 
 // What is asked for: a type and limits.
 #[derive(Clone, Copy)]

@@ -166,21 +166,9 @@ impl<R: ByteSource> Decoder<R> {
         ensures err { Tells R.remaining → IfErr result (λ e. AnswersFault true (TextFault narrow wide) self.old e self.new) }
         ensures tries { Tries true self.old result self.new }
     {
-        match self.plain_len(narrow, wide) {
-            Some(len) => self.bytes_of(len, alloc),
-            None => self.element_content(narrow, wide, alloc),
+        if let Some(len) = self.plain_len(narrow, wide) {
+            return self.bytes_of(len, alloc);
         }
-    }
-
-    // The same of an array's item, or however the source gives it.
-    #[inline(never)]
-    fn element_content(&mut self, narrow: u8, wide: u8, alloc: Global) -> Result<Vec<u8>, Error>
-        requires narrow { 0 < narrow }
-        requires wide { 0 < wide }
-        ensures ok { Tells R.remaining → IfOk result (λ text. ReadsText narrow wide self.old text.items self.new) }
-        ensures err { Tells R.remaining → IfErr result (λ e. AnswersFault true (TextFault narrow wide) self.old e self.new) }
-        ensures tries { Tries true self.old result self.new }
-    {
         if let Some(len) = self.element_len(narrow, wide) {
             return self.bytes_of(len, alloc);
         }

@@ -71,37 +71,45 @@ fn with_forms<'a>(
         .group(forms)
 }
 
+// What is printed.
+fn answers<'a>(alloc: Global) -> Result<ArgGroup<'a>, AllocError> {
+    ArgGroup::new(alloc, "answer").arg("json")?.arg("html")
+}
+
 // How the input is written, and what is printed of it.
 fn with_answers<'a>(command: Command<'a>, alloc: Global) -> Result<Command<'a>, AllocError> {
-    let answers = ArgGroup::new(alloc, "answer").arg("json")?.arg("html")?;
     command
         .arg(
             arg!(in alloc; --hex "The input is hexadecimal digits, with any white space, comments from # to the end of the line, and the offsets of xxd and tcpdump -x"),
         )?
         .arg(arg!(in alloc; --json "Print a line of JSON for each frame, section or term"))?
         .arg(arg!(in alloc; --html "Print a page for a browser, with the bytes beside the values"))?
-        .group(answers)
+        .group(answers(alloc)?)
 }
 
 // What frames and values may have at most.
 fn with_limits<'a>(command: Command<'a>, alloc: Global) -> Result<Command<'a>, AllocError> {
-    let max_frame =
-        arg!(in alloc; --"max-frame" <N> "The most bytes of a frame, at least 512; without it there is no limit").value_parser(
-            value_parser!(u32).range(512..),
-        );
-    let nesting =
-        arg!(in alloc; --nesting <N> "How deep values may nest, at most 128").value_parser(
-            value_parser!(u32).range(..129),
-        );
-    let bytes =
-        arg!(in alloc; --bytes <N> "The most bytes of a value; without it there is no limit").value_parser(
-            value_parser!(u64),
-        );
-    let items =
-        arg!(in alloc; --items <N> "The most items of a value; without it 65536, and four for each byte").value_parser(
-            value_parser!(u64),
-        );
-    command.arg(max_frame)?.arg(nesting)?.arg(bytes)?.arg(items)
+    command
+        .arg(
+            arg!(in alloc; --"max-frame" <N> "The most bytes of a frame, at least 512; without it there is no limit").value_parser(
+                value_parser!(u32).range(512..),
+            ),
+        )?
+        .arg(
+            arg!(in alloc; --nesting <N> "How deep values may nest, at most 128").value_parser(
+                value_parser!(u32).range(..129),
+            ),
+        )?
+        .arg(
+            arg!(in alloc; --bytes <N> "The most bytes of a value; without it there is no limit").value_parser(
+                value_parser!(u64),
+            ),
+        )?
+        .arg(
+            arg!(in alloc; --items <N> "The most items of a value; without it 65536, and four for each byte").value_parser(
+                value_parser!(u64),
+            ),
+        )
 }
 
 impl Arguments {

@@ -30,7 +30,7 @@ pub trait DecodeIntoMessage: Sized {
 }
 
 /// Reads the message as `from_reader` does: its sections are in any order, the last of each kind counts, and at most seven groups are read.
-/// The reader may have been read further than the end of the message.
+/// The reader may have been read further than the end of the message. Clause `any` of law `messages_are_spelled` says which bytes are one.
 impl<B: FromBody> DecodeIntoMessage for B {
     type DecodeError = Error;
 

@@ -77,7 +77,8 @@ impl<B: CanonicalBody> Canonical for Strict<B> {
 
 /// Reads the message that the reader's bytes are, strictly. Its sections are in the standard's order: header, delivery annotations, message
 /// annotations, properties, application properties, body, footer. Each kind comes at most once, and nothing follows them. A strict message
-/// is a message in any order too, with the same value, and it is the whole input.
+/// is a message in any order too, with the same value, and it is the whole input. Clause `strict` of law `messages_are_spelled` says which
+/// bytes are one.
 ///
 /// # Errors
 ///

@@ -18,7 +18,8 @@ use amqp_encoder::{
 use amqp_wire::{Error, Limits, Refusal};
 use std::alloc::Global;
 
-/// Reads the value at the start of `input`. What follows it is ignored.
+/// Reads the value at the start of `input`. What follows it is ignored. Law `reading_is_spelling` says which bytes are a value of a one-term
+/// type, and the laws of `message_spellings` say which are a batch, a body or a message.
 ///
 /// # Errors
 ///

@@ -1,6 +1,6 @@
 use Rattle.std.proofs.lemmas.Result.{err_from_is_err_and}
-use Rattle.amqp_c.proofs.Requests.{refused_at}
-use Rattle.amqp_c.proofs.rewriting.len_within.Goals as goal
+use Rattle.amqp_named_values.proofs.Refused.{refused_at}
+use Rattle.amqp_named_values.proofs.rewriting.len_within.Goals as goal
 
 pub returns-clause-found : goal.returns-clause-found
 returns-clause-found g c = record {

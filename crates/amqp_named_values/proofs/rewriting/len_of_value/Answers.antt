@@ -1,4 +1,4 @@
-use Rattle.amqp_c.proofs.rewriting.len_of_value.Goals as goal
+use Rattle.amqp_named_values.proofs.rewriting.len_of_value.Goals as goal
 
 pub returns-in-Attach-types-clause-refused : goal.returns-in-Attach-types-clause-refused
 returns-in-Attach-types-clause-refused c = rw c.in-Attach-types.is c.types-len_within-6.ensures.refused

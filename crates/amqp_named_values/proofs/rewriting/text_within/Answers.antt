@@ -2,8 +2,8 @@ use Rattle.std.proofs.Common.{inl, inr, refl}
 use Rattle.std.proofs.lemmas.Result.{err_from_is_err_and}
 use Rattle.amqp_read_write.proofs.Rewrites.{not_written}
 use Rattle.amqp_read_write.proofs.Placed.{placed}
-use Rattle.amqp_c.proofs.Requests.{refused_at}
-use Rattle.amqp_c.proofs.rewriting.text_within.Goals as goal
+use Rattle.amqp_named_values.proofs.Refused.{refused_at}
+use Rattle.amqp_named_values.proofs.rewriting.text_within.Goals as goal
 
 pub returns-in-Ok-clause-text : goal.returns-in-Ok-clause-text
 returns-in-Ok-clause-text g c = (
