@@ -1,5 +1,5 @@
 -- The descriptors of types (Part 1, section 1.5), and the names of their fields.
-use Rattle.std.specs.Prelude.{ℕ, Option, Some, None, List, [], map}
+use Rattle.std.specs.Prelude.{ℕ, Option, Some, None, List, [], ◌∷◌, map, option_map, unwrap_or}
 use Rattle.amqp_lines.specs.declared.request.TypeName.{TypeName}
 use Rattle.amqp_lines.specs.declared.request.TypeName.TheVariants as line_type
 use Rattle.amqp_delivery.specs.Tables.{accepted, declare, declared, discharge, modified, received, rejected, released, transactional_state}
@@ -41,49 +41,69 @@ use Rattle.amqp_sasl.specs.declared.sasl_outcome.TheConstants.SaslOutcome as sas
 use Rattle.amqp_message_headers.specs.declared.header.TheConstants.Header as header_constants
 use Rattle.amqp_message_headers.specs.declared.properties.TheConstants.Properties as properties_constants
 
--- The code of the descriptor that the type's values have, by the type's table; or none if they have several, or none.
+-- The code and the name of the descriptor that the type's values have, by the type's table; or none if they have several, or none.
+abbrev pub descriptor_of : TypeName → Option (ℕ × List ℕ)
+descriptor_of line_type.Open = Some (opening.code, opening.name)
+descriptor_of line_type.Begin = Some (begin.code, begin.name)
+descriptor_of line_type.Attach = Some (attach.code, attach.name)
+descriptor_of line_type.Flow = Some (flow.code, flow.name)
+descriptor_of line_type.Transfer = Some (transfer.code, transfer.name)
+descriptor_of line_type.Disposition = Some (disposition.code, disposition.name)
+descriptor_of line_type.Detach = Some (detach.code, detach.name)
+descriptor_of line_type.End = Some (ending.code, ending.name)
+descriptor_of line_type.Close = Some (close.code, close.name)
+descriptor_of line_type.Error = Some (error.code, error.name)
+descriptor_of line_type.Received = Some (received.code, received.name)
+descriptor_of line_type.Accepted = Some (accepted.code, accepted.name)
+descriptor_of line_type.Rejected = Some (rejected.code, rejected.name)
+descriptor_of line_type.Released = Some (released.code, released.name)
+descriptor_of line_type.Modified = Some (modified.code, modified.name)
+descriptor_of line_type.Source = Some (source.code, source.name)
+descriptor_of line_type.Target = Some (target.code, target.name)
+descriptor_of line_type.DeleteOnClose = Some (delete_on_close.code, delete_on_close.name)
+descriptor_of line_type.DeleteOnNoLinks = Some (delete_on_no_links.code, delete_on_no_links.name)
+descriptor_of line_type.DeleteOnNoMessages = Some (delete_on_no_messages.code, delete_on_no_messages.name)
+descriptor_of line_type.DeleteOnNoLinksOrMessages = Some (delete_on_no_links_or_messages.code, delete_on_no_links_or_messages.name)
+descriptor_of line_type.Coordinator = Some (coordinator.code, coordinator.name)
+descriptor_of line_type.Declare = Some (declare.code, declare.name)
+descriptor_of line_type.Discharge = Some (discharge.code, discharge.name)
+descriptor_of line_type.Declared = Some (declared.code, declared.name)
+descriptor_of line_type.TransactionalState = Some (transactional_state.code, transactional_state.name)
+descriptor_of line_type.SaslMechanisms = Some (sasl_mechanisms.code, sasl_mechanisms.name)
+descriptor_of line_type.SaslInit = Some (sasl_init.code, sasl_init.name)
+descriptor_of line_type.SaslChallenge = Some (sasl_challenge.code, sasl_challenge.name)
+descriptor_of line_type.SaslResponse = Some (sasl_response.code, sasl_response.name)
+descriptor_of line_type.SaslOutcome = Some (sasl_outcome.code, sasl_outcome.name)
+descriptor_of line_type.Header = Some (header.code, header.name)
+descriptor_of line_type.DeliveryAnnotations = Some (delivery_annotations_naming.code, delivery_annotations_naming.name)
+descriptor_of line_type.MessageAnnotations = Some (message_annotations_naming.code, message_annotations_naming.name)
+descriptor_of line_type.Properties = Some (properties.code, properties.name)
+descriptor_of line_type.ApplicationProperties = Some (application_properties_naming.code, application_properties_naming.name)
+descriptor_of line_type.Data = Some (data_naming.code, data_naming.name)
+descriptor_of line_type.AmqpSequence = Some (sequence_naming.code, sequence_naming.name)
+descriptor_of line_type.AmqpValue = Some (value_naming.code, value_naming.name)
+descriptor_of line_type.Footer = Some (footer_naming.code, footer_naming.name)
+descriptor_of _ = None
+
+-- The code alone.
 abbrev pub code_of : TypeName → Option ℕ
-code_of line_type.Open = Some opening.code
-code_of line_type.Begin = Some begin.code
-code_of line_type.Attach = Some attach.code
-code_of line_type.Flow = Some flow.code
-code_of line_type.Transfer = Some transfer.code
-code_of line_type.Disposition = Some disposition.code
-code_of line_type.Detach = Some detach.code
-code_of line_type.End = Some ending.code
-code_of line_type.Close = Some close.code
-code_of line_type.Error = Some error.code
-code_of line_type.Received = Some received.code
-code_of line_type.Accepted = Some accepted.code
-code_of line_type.Rejected = Some rejected.code
-code_of line_type.Released = Some released.code
-code_of line_type.Modified = Some modified.code
-code_of line_type.Source = Some source.code
-code_of line_type.Target = Some target.code
-code_of line_type.DeleteOnClose = Some delete_on_close.code
-code_of line_type.DeleteOnNoLinks = Some delete_on_no_links.code
-code_of line_type.DeleteOnNoMessages = Some delete_on_no_messages.code
-code_of line_type.DeleteOnNoLinksOrMessages = Some delete_on_no_links_or_messages.code
-code_of line_type.Coordinator = Some coordinator.code
-code_of line_type.Declare = Some declare.code
-code_of line_type.Discharge = Some discharge.code
-code_of line_type.Declared = Some declared.code
-code_of line_type.TransactionalState = Some transactional_state.code
-code_of line_type.SaslMechanisms = Some sasl_mechanisms.code
-code_of line_type.SaslInit = Some sasl_init.code
-code_of line_type.SaslChallenge = Some sasl_challenge.code
-code_of line_type.SaslResponse = Some sasl_response.code
-code_of line_type.SaslOutcome = Some sasl_outcome.code
-code_of line_type.Header = Some header.code
-code_of line_type.DeliveryAnnotations = Some delivery_annotations_naming.code
-code_of line_type.MessageAnnotations = Some message_annotations_naming.code
-code_of line_type.Properties = Some properties.code
-code_of line_type.ApplicationProperties = Some application_properties_naming.code
-code_of line_type.Data = Some data_naming.code
-code_of line_type.AmqpSequence = Some sequence_naming.code
-code_of line_type.AmqpValue = Some value_naming.code
-code_of line_type.Footer = Some footer_naming.code
-code_of _ = None
+code_of named = option_map (λ d. d.0) (descriptor_of named)
+
+-- The types whose values have one descriptor, in the order of the codes.
+abbrev pub described : List TypeName
+described =
+    line_type.Open ∷ line_type.Begin ∷ line_type.Attach ∷ line_type.Flow ∷ line_type.Transfer ∷ line_type.Disposition
+    ∷ line_type.Detach ∷ line_type.End ∷ line_type.Close ∷ line_type.Error ∷ line_type.Received ∷ line_type.Accepted
+    ∷ line_type.Rejected ∷ line_type.Released ∷ line_type.Modified ∷ line_type.Source ∷ line_type.Target ∷ line_type.DeleteOnClose
+    ∷ line_type.DeleteOnNoLinks ∷ line_type.DeleteOnNoMessages ∷ line_type.DeleteOnNoLinksOrMessages ∷ line_type.Coordinator
+    ∷ line_type.Declare ∷ line_type.Discharge ∷ line_type.Declared ∷ line_type.TransactionalState ∷ line_type.SaslMechanisms
+    ∷ line_type.SaslInit ∷ line_type.SaslChallenge ∷ line_type.SaslResponse ∷ line_type.SaslOutcome ∷ line_type.Header
+    ∷ line_type.DeliveryAnnotations ∷ line_type.MessageAnnotations ∷ line_type.Properties ∷ line_type.ApplicationProperties
+    ∷ line_type.Data ∷ line_type.AmqpSequence ∷ line_type.AmqpValue ∷ line_type.Footer ∷ []
+
+-- Their descriptors.
+abbrev pub descriptors : List (ℕ × List ℕ)
+descriptors = map (λ named. unwrap_or (descriptor_of named) (0, [])) described
 
 -- The names of the fields of the type's values, in the order of the standard. Only composites have fields.
 abbrev pub field_names : TypeName → List (List ℕ)

@@ -16,18 +16,6 @@ pub enum Content {
     Any,
 }
 
-impl Content {
-    /// Returns the last part of the symbolic descriptors of such types.
-    pub(crate) fn suffix(self) -> &'static str {
-        match self {
-            Content::Fields | Content::Items => "list",
-            Content::Pairs => "map",
-            Content::Bytes => "binary",
-            Content::Any => "*",
-        }
-    }
-}
-
 /// Returns what the descriptor of a type describes.
 pub fn content_of(named: TypeName) -> Content {
     match named {

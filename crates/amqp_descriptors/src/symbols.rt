@@ -1,41 +1,80 @@
 //! The symbols of the descriptors, as `amqp:open:list`.
-ghost use Rattle.std.specs.Prelude.{◌≡◌, Some, IfSome};
+ghost use Rattle.std.specs.Prelude.{◌≡◌, ℕ, Some, MatchOption, map};
+ghost use Rattle.amqp_lookahead.specs.Members.{as_name};
 ghost use Rattle.amqp_lines.specs.declared.request.TypeName.{TypeName};
-ghost use Rattle.amqp_descriptors.specs.Descriptors.{code_of};
+ghost use Rattle.amqp_descriptors.specs.Descriptors.{descriptor_of, descriptors};
 
-use crate::codes::type_of_code;
-use crate::content::content_of;
-use crate::type_names::name_of;
-use amqp_lines::TypeName;
+use amqp_lines::types::{
+    Accepted, ApplicationProperties, Attach, Begin, Close, Coordinator, Data, Declare, Declared,
+    DefinedError, DeleteOnClose, DeleteOnNoLinks, DeleteOnNoLinksOrMessages, DeleteOnNoMessages,
+    DeliveryAnnotations, Detach, Discharge, Disposition, End, Flow, Footer, Header,
+    MessageAnnotations, Modified, Open, Properties, Received, Rejected, Released, SaslChallenge,
+    SaslInit, SaslMechanisms, SaslOutcome, SaslResponse, Source, Target, TransactionalState,
+    Transfer,
+};
+use amqp_lookahead::names::{Members, place_of_name};
+use amqp_wire::section_code;
 
-/// The codes of the descriptors of types, and a few between them that are of none.
-const FIRST_CODE: u64 = 0x10;
+/// The descriptors of the types, each by its code and its symbol.
+const DESCRIPTORS: Members<'static> = &[
+    Open::DESCRIPTOR,
+    Begin::DESCRIPTOR,
+    Attach::DESCRIPTOR,
+    Flow::DESCRIPTOR,
+    Transfer::DESCRIPTOR,
+    Disposition::DESCRIPTOR,
+    Detach::DESCRIPTOR,
+    End::DESCRIPTOR,
+    Close::DESCRIPTOR,
+    DefinedError::DESCRIPTOR,
+    Received::DESCRIPTOR,
+    Accepted::DESCRIPTOR,
+    Rejected::DESCRIPTOR,
+    Released::DESCRIPTOR,
+    Modified::DESCRIPTOR,
+    Source::DESCRIPTOR,
+    Target::DESCRIPTOR,
+    DeleteOnClose::DESCRIPTOR,
+    DeleteOnNoLinks::DESCRIPTOR,
+    DeleteOnNoMessages::DESCRIPTOR,
+    DeleteOnNoLinksOrMessages::DESCRIPTOR,
+    Coordinator::DESCRIPTOR,
+    Declare::DESCRIPTOR,
+    Discharge::DESCRIPTOR,
+    Declared::DESCRIPTOR,
+    TransactionalState::DESCRIPTOR,
+    SaslMechanisms::DESCRIPTOR,
+    SaslInit::DESCRIPTOR,
+    SaslChallenge::DESCRIPTOR,
+    SaslResponse::DESCRIPTOR,
+    SaslOutcome::DESCRIPTOR,
+    Header::DESCRIPTOR,
+    DeliveryAnnotations::DESCRIPTOR,
+    MessageAnnotations::DESCRIPTOR,
+    Properties::DESCRIPTOR,
+    ApplicationProperties::DESCRIPTOR,
+    Data::DESCRIPTOR,
+    (
+        section_code::AMQP_SEQUENCE as u64,
+        "amqp:amqp-sequence:list",
+    ),
+    (section_code::AMQP_VALUE as u64, "amqp:amqp-value:*"),
+    Footer::DESCRIPTOR,
+];
 
-const LAST_CODE: u64 = 0x78;
-
-// The name between the two colons of a symbolic descriptor, and what is after the second one.
-fn parts_of(symbol: &[u8]) -> Option<(&[u8], &[u8])> {
-    let rest = symbol.strip_prefix(b"amqp:")?;
-    let colon = rest.iter().position(|byte| *byte == b':')?;
-    Some((rest.get(..colon)?, rest.get(colon.saturating_add(1)..)?))
-}
-
-// Whether the symbolic descriptor of the type has these parts.
-fn has_symbol(named: TypeName, name: &[u8], suffix: &[u8]) -> bool {
-    name_of(named).as_bytes() == name && content_of(named).suffix().as_bytes() == suffix
-}
-
-/// Returns the code of the type whose descriptor has this symbol, as `amqp:open:list`.
-pub fn code_of_symbol(symbol: &[u8]) -> Option<u64>
-    ensures { IfSome result (λ code. (named : TypeName) × (code_of named ≡ Some code)) }
+/// Returns the descriptors of the types, each by its code and its symbol.
+fn descriptors() -> Members<'static>
+    ensures { map as_name result.now ≡ descriptors }
 {
-    let (name, suffix) = parts_of(symbol)?;
-    for code in FIRST_CODE..=LAST_CODE {
-        if let Some(named) = type_of_code(code) {
-            if has_symbol(named, name, suffix) {
-                return Some(code);
-            }
-        }
-    }
-    None
+    DESCRIPTORS
+}
+
+/// Returns the code of the type whose descriptor has this symbol, as `amqp:open:list`, or `None` if no type has it.
+pub fn code_of_symbol(symbol: &[u8]) -> Option<u64>
+    ensures { MatchOption result ((named : TypeName) (code : ℕ) → descriptor_of named ≡ Some (code, symbol.now) → ⊥)
+        (λ code. (named : TypeName) × (descriptor_of named ≡ Some (code, symbol.now))) }
+{
+    let members = descriptors();
+    let place = place_of_name(members, symbol)?;
+    Some(members[place].0)
 }
