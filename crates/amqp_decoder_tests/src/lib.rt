@@ -5,6 +5,8 @@ mod dripping;
 #[cfg(test)]
 mod limits;
 #[cfg(test)]
+mod paths;
+#[cfg(test)]
 mod reading;
 #[cfg(test)]
 mod reading_calls;

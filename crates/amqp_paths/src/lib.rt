@@ -12,8 +12,6 @@ pub mod laws;
 mod path;
 mod piece;
 mod steps;
-#[cfg(test)]
-mod tests;
 
 pub use path::{Path, path_of};
 pub use piece::{ContainerKind, Node, Piece};

@@ -10,12 +10,20 @@ mod delivery;
 #[cfg(test)]
 mod from_readers;
 #[cfg(test)]
+mod identifiers;
+#[cfg(test)]
 mod iterators;
 #[cfg(test)]
 mod limited_readers;
 #[cfg(test)]
 mod members;
 #[cfg(test)]
+mod offers;
+#[cfg(test)]
 mod readers;
+#[cfg(test)]
+mod seconds;
+#[cfg(test)]
+mod uses;
 #[cfg(test)]
 mod wire;

@@ -92,5 +92,3 @@ pub fn next_message<B: FromBody, R: ByteSource>(
 }
 
 pub mod connection;
-#[cfg(test)]
-mod tests;

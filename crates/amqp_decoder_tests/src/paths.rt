@@ -1,5 +1,5 @@
 //! Paths in small values. The bytes are written by the tables of Part 1, sections 1.2 and 1.6.
-use crate::{ContainerKind, Node, Piece, path_of};
+use amqp_paths::{ContainerKind, Node, Piece, path_of};
 
 fn node(at: usize, piece: Piece) -> Node {
     Node { at, piece }

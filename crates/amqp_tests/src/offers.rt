@@ -1,10 +1,8 @@
 //! Inputs of offers and of maps whose keys are ports, and the canonical text of each, or why it is refused; and what is written.
-use crate::Offer;
-use crate::port::Port;
-use amqp_codec::{Canonical, Symbol};
-use amqp_containers::Array;
-use amqp_maps::OrderedMap;
-use amqp_read_write::{canonical_text, from_slice, to_vec};
+use amqp_user_types::Offer;
+use amqp_user_types::port::Port;
+use fe2o3_amqp_types::codec::{Canonical, canonical_text, from_slice, to_vec};
+use fe2o3_amqp_types::primitives::{Array, OrderedMap, Symbol};
 use std::alloc::Global;
 use std::test::Fail;
 

@@ -1,7 +1,10 @@
-use super::*;
-use crate::connection::{Fault, Passed, next_performative};
-use fe2o3_amqp_types::messaging::{Accepted, Data};
+//! The uses of the library that are in `amqp_uses`.
+use amqp_uses::connection::{Fault, Passed, next_performative};
+use amqp_uses::{are_of_one_value, next_message, one_byte_on, relay, settled};
+use fe2o3_amqp_types::codec::{Error, Limits};
+use fe2o3_amqp_types::messaging::{Accepted, Data, Message};
 use fe2o3_amqp_types::performatives::Performative;
+use std::alloc::Global;
 use std::test::Fail;
 
 #[test]
