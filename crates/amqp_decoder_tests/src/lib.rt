@@ -1,4 +1,4 @@
-//! Tests of the decoder: worked rows, each over several sources, and each call that reads.
+//! Tests of the decoder: worked rows, each over several sources, and each call that reads. There are also tests of paths.
 #![tactic(auto)]
 
 mod dripping;

@@ -1,4 +1,4 @@
-//! Tests that cross crates: calls on values of several crates, over slices and over readers.
+//! Tests that cross crates: calls on values of several crates, over slices and over readers, types of a user, and the uses.
 #![tactic(auto)]
 
 #[cfg(test)]
@@ -10,19 +10,15 @@ mod delivery;
 #[cfg(test)]
 mod from_readers;
 #[cfg(test)]
-mod identifiers;
-#[cfg(test)]
 mod iterators;
 #[cfg(test)]
 mod limited_readers;
 #[cfg(test)]
 mod members;
 #[cfg(test)]
-mod offers;
-#[cfg(test)]
 mod readers;
 #[cfg(test)]
-mod seconds;
+mod user_types;
 #[cfg(test)]
 mod uses;
 #[cfg(test)]

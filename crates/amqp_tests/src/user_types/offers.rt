@@ -1,13 +1,11 @@
 //! Inputs of offers and of maps whose keys are ports, and the canonical text of each, or why it is refused; and what is written.
+use super::{Row, check};
 use amqp_user_types::Offer;
 use amqp_user_types::port::Port;
-use fe2o3_amqp_types::codec::{Canonical, canonical_text, from_slice, to_vec};
+use fe2o3_amqp_types::codec::{from_slice, to_vec};
 use fe2o3_amqp_types::primitives::{Array, OrderedMap, Symbol};
 use std::alloc::Global;
 use std::test::Fail;
-
-/// What comes after a descriptor, and what canonically does, or the name of the error.
-type Row = (&'static str, &'static str);
 
 const OFFERS: [Row; 26] = [
     ("c00402405207", "c00402405207"),
@@ -64,27 +62,6 @@ const REFUSED_BOOLEANS_BY_PORTS: [Row; 12] = [
     ("c103024343", "WrongType"),
     ("c103024399", "UnknownCode"),
 ];
-
-fn answer<T: Canonical>(digits: &str, alloc: Global) -> Result<String, Fail> {
-    let input = hex::decode(alloc, digits)?;
-    match canonical_text::<T>(input.as_slice(), alloc) {
-        Ok((text, _)) => Ok(hex::encode(alloc, &text)?),
-        Err(error) => Ok(String::from_str(alloc, error.name())?),
-    }
-}
-
-// Each row has its answer.
-fn check<T: Canonical>(descriptor: &str, rows: &[Row], alloc: Global) -> Result<(), Fail> {
-    for (digits, wanted) in rows {
-        let input = format!(in alloc; "{descriptor}{digits}")?;
-        let found = answer::<T>(input.as_str(), alloc)?;
-        let found = found.as_str();
-        if found.strip_prefix(descriptor).unwrap_or(found) != *wanted {
-            return Err(Fail::new(format_args!("{input} is answered by {found}")));
-        }
-    }
-    Ok(())
-}
 
 #[test]
 fn any_number_of_values(rt: HostRuntime) -> Result<(), Fail> {
