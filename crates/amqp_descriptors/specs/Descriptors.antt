@@ -2,7 +2,8 @@
 use Rattle.std.specs.Prelude.{ℕ, Option, Some, None, List, [], ◌∷◌, map, option_map, unwrap_or}
 use Rattle.amqp_lines.specs.declared.request.TypeName.{TypeName}
 use Rattle.amqp_lines.specs.declared.request.TypeName.TheVariants as line_type
-use Rattle.amqp_delivery.specs.Tables.{accepted, declare, declared, discharge, modified, received, rejected, released, transactional_state}
+use Rattle.amqp_plain_states.specs.Tables.{accepted, declare, declared, discharge, received, released}
+use Rattle.amqp_delivery.specs.Tables.{modified, rejected, transactional_state}
 use Rattle.amqp_errors.specs.Tables.{error}
 use Rattle.amqp_attach.specs.Tables.{attach}
 use Rattle.amqp_message_headers.specs.Tables.{header, properties}
@@ -23,15 +24,15 @@ use Rattle.amqp_performatives.specs.declared.detach.TheConstants.Detach as detac
 use Rattle.amqp_performatives.specs.declared.end.TheConstants.End as end_constants
 use Rattle.amqp_performatives.specs.declared.close.TheConstants.Close as close_constants
 use Rattle.amqp_errors.specs.declared.error.TheConstants.Error as error_constants
-use Rattle.amqp_delivery.specs.declared.received.TheConstants.Received as received_constants
+use Rattle.amqp_plain_states.specs.declared.received.TheConstants.Received as received_constants
 use Rattle.amqp_delivery.specs.declared.rejected.TheConstants.Rejected as rejected_constants
 use Rattle.amqp_delivery.specs.declared.modified.TheConstants.Modified as modified_constants
 use Rattle.amqp_termini.specs.declared.source.TheConstants.Source as source_constants
 use Rattle.amqp_termini.specs.declared.target.TheConstants.Target as target_constants
 use Rattle.amqp_termini.specs.declared.coordinator.TheConstants.Coordinator as coordinator_constants
-use Rattle.amqp_delivery.specs.declared.declare.TheConstants.Declare as declare_constants
-use Rattle.amqp_delivery.specs.declared.discharge.TheConstants.Discharge as discharge_constants
-use Rattle.amqp_delivery.specs.declared.declared.TheConstants.Declared as declared_constants
+use Rattle.amqp_plain_states.specs.declared.declare.TheConstants.Declare as declare_constants
+use Rattle.amqp_plain_states.specs.declared.discharge.TheConstants.Discharge as discharge_constants
+use Rattle.amqp_plain_states.specs.declared.declared.TheConstants.Declared as declared_constants
 use Rattle.amqp_delivery.specs.declared.transactional_state.TheConstants.TransactionalState as transactional_state_constants
 use Rattle.amqp_sasl.specs.declared.sasl_mechanisms.TheConstants.SaslMechanisms as sasl_mechanisms_constants
 use Rattle.amqp_sasl.specs.declared.sasl_init.TheConstants.SaslInit as sasl_init_constants

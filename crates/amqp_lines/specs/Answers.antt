@@ -24,8 +24,8 @@ use Rattle.amqp_map_sections.specs.SimpleMaps.{simple_map_type}
 use Rattle.amqp_kinds.specs.KindSumType.{kind_sum_type}
 use Rattle.amqp_message_headers.specs.MessageIds.{message_ids}
 use Rattle.amqp_message_headers.specs.Tables.{header, properties}
-use Rattle.amqp_delivery.specs.Tables.{accepted, declare, declared, delivery_state, discharge, modified, outcome, received}
-use Rattle.amqp_delivery.specs.Tables.{rejected, released, transactional_state}
+use Rattle.amqp_plain_states.specs.Tables.{accepted, declare, declared, discharge, received, released}
+use Rattle.amqp_delivery.specs.Tables.{delivery_state, modified, outcome, rejected, transactional_state}
 use Rattle.amqp_errors.specs.Conditions.{condition_type}
 use Rattle.amqp_errors.specs.Tables.{error}
 use Rattle.amqp_attach.specs.Tables.{attach, performative}

@@ -1,6 +1,6 @@
 //! The accepted outcome (Part 3, section 3.4.2).
 ghost use Rattle.amqp_sums.specs.Types.{composite, has_none, names_of, one_term, refl, agreement, writing_of};
-ghost use Rattle.amqp_delivery.specs.Tables.{accepted};
+ghost use Rattle.amqp_plain_states.specs.Tables.{accepted};
 
 use amqp_codec::kernel::{Composite, Fieldless, write_composite};
 use amqp_codec::{Encoder, Error, Pass, Serialize, SerializeTerm};

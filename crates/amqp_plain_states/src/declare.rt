@@ -1,7 +1,7 @@
 //! The request for a transaction (Part 4, section 4.5.2).
 ghost use Rattle.std.specs.Prelude.{◌≡◌};
 ghost use Rattle.amqp_sums.specs.Types.{composite, fields_of, names_of, one_term, refl, agreement, writing_of};
-ghost use Rattle.amqp_delivery.specs.Tables.{declare};
+ghost use Rattle.amqp_plain_states.specs.Tables.{declare};
 
 use crate::TransactionId;
 use amqp_codec::kernel::{Composite, FieldList, FieldRule, write_composite};

@@ -1,6 +1,6 @@
 //! The outcome of a declared transaction (Part 4, section 4.5.5).
 ghost use Rattle.amqp_sums.specs.Types.{composite, fields_of, names_of, one_term, refl, agreement, writing_of};
-ghost use Rattle.amqp_delivery.specs.Tables.{declared};
+ghost use Rattle.amqp_plain_states.specs.Tables.{declared};
 
 use crate::TransactionId;
 use amqp_codec::kernel::{Composite, FieldList, FieldRule, write_composite};

@@ -1,6 +1,6 @@
 //! The end of a transaction (Part 4, section 4.5.3).
 ghost use Rattle.amqp_sums.specs.Types.{composite, fields_of, names_of, one_term, refl, agreement, writing_of};
-ghost use Rattle.amqp_delivery.specs.Tables.{discharge};
+ghost use Rattle.amqp_plain_states.specs.Tables.{discharge};
 
 use crate::TransactionId;
 use amqp_codec::kernel::{Composite, FieldList, FieldRule, write_composite};

@@ -1,6 +1,6 @@
 //! The received state (Part 3, section 3.4.1).
 ghost use Rattle.amqp_sums.specs.Types.{composite, fields_of, names_of, one_term, refl, agreement, writing_of};
-ghost use Rattle.amqp_delivery.specs.Tables.{received};
+ghost use Rattle.amqp_plain_states.specs.Tables.{received};
 
 use amqp_codec::kernel::{Composite, FieldList, FieldRule, write_composite};
 use amqp_codec::{ByteSource, Decoder, Encoder, Error, Pass, Serialize, SerializeTerm, fields};

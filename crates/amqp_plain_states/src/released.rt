@@ -1,6 +1,6 @@
 //! The released outcome (Part 3, section 3.4.4).
 ghost use Rattle.amqp_sums.specs.Types.{composite, has_none, names_of, one_term, refl, agreement, writing_of};
-ghost use Rattle.amqp_delivery.specs.Tables.{released};
+ghost use Rattle.amqp_plain_states.specs.Tables.{released};
 
 use amqp_codec::kernel::{Composite, Fieldless, write_composite};
 use amqp_codec::{Encoder, Error, Pass, Serialize, SerializeTerm};
