@@ -9,8 +9,8 @@ use Rattle.amqp_attach.specs.Tables.{attach}
 use Rattle.amqp_message_headers.specs.Tables.{header, properties}
 use Rattle.amqp_performatives.specs.Tables.{begin, close, detach, disposition, ending, flow, opening, transfer}
 use Rattle.amqp_sasl.specs.Tables.{sasl_challenge, sasl_init, sasl_mechanisms, sasl_outcome, sasl_response}
+use Rattle.amqp_lifetimes.specs.Tables.{delete_on_close, delete_on_no_links, delete_on_no_links_or_messages, delete_on_no_messages}
 use Rattle.amqp_termini.specs.Tables.{coordinator, source, target}
-use Rattle.amqp_termini.specs.Tables.{delete_on_close, delete_on_no_links, delete_on_no_links_or_messages, delete_on_no_messages}
 use Rattle.amqp_sections.specs.Sections.{data_naming, sequence_naming, value_naming}
 use Rattle.amqp_map_sections.specs.MapSections.{delivery_annotations_naming, message_annotations_naming, footer_naming}
 use Rattle.amqp_map_sections.specs.MapSections.{application_properties_naming}

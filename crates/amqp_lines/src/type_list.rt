@@ -8,6 +8,10 @@ pub mod types {
     pub use amqp_bodies::Body;
     pub use amqp_delivery::{DeliveryState, Modified, Outcome, Rejected, TransactionalState};
     pub use amqp_errors::{Error as DefinedError, ErrorCondition};
+    pub use amqp_lifetimes::{
+        DeleteOnClose, DeleteOnNoLinks, DeleteOnNoLinksOrMessages, DeleteOnNoMessages,
+        LifetimePolicy,
+    };
     pub use amqp_map_sections::{
         ApplicationProperties, DeliveryAnnotations, Footer, MessageAnnotations,
     };
@@ -18,10 +22,7 @@ pub mod types {
     pub use amqp_sasl::{SaslChallenge, SaslInit, SaslMechanisms, SaslOutcome, SaslResponse};
     pub use amqp_sections::{AmqpSequence, AmqpValue, Data};
     pub use amqp_simple_values::SimpleValue;
-    pub use amqp_termini::{
-        Coordinator, DeleteOnClose, DeleteOnNoLinks, DeleteOnNoLinksOrMessages, DeleteOnNoMessages,
-        LifetimePolicy, Source, Target, TargetArchetype,
-    };
+    pub use amqp_termini::{Coordinator, Source, Target, TargetArchetype};
     pub use amqp_values::Value;
 }
 

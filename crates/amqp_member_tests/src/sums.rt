@@ -5,11 +5,11 @@ use amqp_full_composites::delivery::{
     full_declared, full_modified, full_received, full_rejected, full_transactional_state,
 };
 use amqp_full_composites::termini::{full_coordinator, full_target};
-use amqp_plain_states::{Accepted, Released};
-use amqp_termini::{
-    Coordinator, DeleteOnClose, DeleteOnNoLinks, DeleteOnNoLinksOrMessages, DeleteOnNoMessages,
-    LifetimePolicy, TargetArchetype,
+use amqp_lifetimes::{
+    DeleteOnClose, DeleteOnNoLinks, DeleteOnNoLinksOrMessages, DeleteOnNoMessages, LifetimePolicy,
 };
+use amqp_plain_states::{Accepted, Released};
+use amqp_termini::{Coordinator, TargetArchetype};
 use amqp_test_helpers::{are_equal, check_made, is, is_copied};
 use std::test::Fail;
 

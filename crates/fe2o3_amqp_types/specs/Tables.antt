@@ -22,8 +22,9 @@ pub use Rattle.amqp_message_headers.specs.Tables.{header, properties}
 pub use Rattle.amqp_plain_states.specs.Tables.{received, accepted, released}
 pub use Rattle.amqp_delivery.specs.Tables.{rejected, modified, delivery_states, delivery_state, outcomes, outcome}
 -- Part 3, section 3.5
-pub use Rattle.amqp_termini.specs.Tables.{source, target, target_archetypes, target_archetype, lifetime_policies, lifetime_policy}
-pub use Rattle.amqp_termini.specs.Tables.{delete_on_close, delete_on_no_links, delete_on_no_messages, delete_on_no_links_or_messages}
+pub use Rattle.amqp_termini.specs.Tables.{source, target, target_archetypes, target_archetype}
+pub use Rattle.amqp_lifetimes.specs.Tables.{lifetime_policies, lifetime_policy}
+pub use Rattle.amqp_lifetimes.specs.Tables.{delete_on_close, delete_on_no_links, delete_on_no_messages, delete_on_no_links_or_messages}
 pub use Rattle.amqp_restricted_types.specs.Termini.{terminus_durability_numbers, terminus_expiry_policy_texts, distribution_mode_texts}
 -- Part 4, section 4.5
 pub use Rattle.amqp_termini.specs.Tables.{coordinator}

@@ -132,6 +132,10 @@ pub mod messaging {
         SerializableBody, TransposeOption, ValueBody, ValueFromBody,
     };
     pub use amqp_delivery::{DeliveryState, Modified, Outcome, Rejected};
+    pub use amqp_lifetimes::{
+        DeleteOnClose, DeleteOnNoLinks, DeleteOnNoLinksOrMessages, DeleteOnNoMessages,
+        LifetimePolicy, SupportedDistModes,
+    };
     pub use amqp_map_sections::{
         ApplicationProperties, DeliveryAnnotations, Footer, MessageAnnotations,
     };
@@ -142,9 +146,8 @@ pub mod messaging {
     pub use amqp_section_slices::{Section, SectionKind, Sections, split_section};
     pub use amqp_sections::{AmqpSequence, AmqpValue, Data};
     pub use amqp_termini::{
-        Address, DeleteOnClose, DeleteOnNoLinks, DeleteOnNoLinksOrMessages, DeleteOnNoMessages,
-        FilterSet, LifetimePolicy, NodeProperties, Source, SourceBuilder, SupportedDistModes,
-        Target, TargetArchetype, TargetBuilder,
+        Address, FilterSet, NodeProperties, Source, SourceBuilder, Target, TargetArchetype,
+        TargetBuilder,
     };
 
     /// Whole messages, and strict ones (Part 3, section 3.2).

@@ -1,7 +1,7 @@
 //! How long a node lives that was made for a link (Part 3, sections 3.5.10 to 3.5.13).
 ghost use Rattle.std.specs.Prelude.{◌≡◌};
 ghost use Rattle.amqp_sums.specs.Choices.{sum_one, sum_agreement, sum_writing};
-ghost use Rattle.amqp_termini.specs.Tables.{lifetime_policy, lifetime_policies};
+ghost use Rattle.amqp_lifetimes.specs.Tables.{lifetime_policy, lifetime_policies};
 
 use crate::{DeleteOnClose, DeleteOnNoLinks, DeleteOnNoLinksOrMessages, DeleteOnNoMessages};
 use amqp_codec::{
@@ -20,7 +20,7 @@ pub enum LifetimePolicy {
 }
 
 impl From<DeleteOnClose> for LifetimePolicy {
-    ghost use Rattle.amqp_termini.specs.declared.lifetime_policy.LifetimePolicy.TheVariants as policy;
+    ghost use Rattle.amqp_lifetimes.specs.declared.lifetime_policy.LifetimePolicy.TheVariants as policy;
 
     ghost from_gives = { λ member sum. sum ≡ policy.DeleteOnClose member };
 
@@ -30,7 +30,7 @@ impl From<DeleteOnClose> for LifetimePolicy {
 }
 
 impl From<DeleteOnNoLinks> for LifetimePolicy {
-    ghost use Rattle.amqp_termini.specs.declared.lifetime_policy.LifetimePolicy.TheVariants as policy;
+    ghost use Rattle.amqp_lifetimes.specs.declared.lifetime_policy.LifetimePolicy.TheVariants as policy;
 
     ghost from_gives = { λ member sum. sum ≡ policy.DeleteOnNoLinks member };
 
@@ -40,7 +40,7 @@ impl From<DeleteOnNoLinks> for LifetimePolicy {
 }
 
 impl From<DeleteOnNoMessages> for LifetimePolicy {
-    ghost use Rattle.amqp_termini.specs.declared.lifetime_policy.LifetimePolicy.TheVariants as policy;
+    ghost use Rattle.amqp_lifetimes.specs.declared.lifetime_policy.LifetimePolicy.TheVariants as policy;
 
     ghost from_gives = { λ member sum. sum ≡ policy.DeleteOnNoMessages member };
 
@@ -50,7 +50,7 @@ impl From<DeleteOnNoMessages> for LifetimePolicy {
 }
 
 impl From<DeleteOnNoLinksOrMessages> for LifetimePolicy {
-    ghost use Rattle.amqp_termini.specs.declared.lifetime_policy.LifetimePolicy.TheVariants as policy;
+    ghost use Rattle.amqp_lifetimes.specs.declared.lifetime_policy.LifetimePolicy.TheVariants as policy;
 
     ghost from_gives = { λ member sum. sum ≡ policy.DeleteOnNoLinksOrMessages member };
 

@@ -1,6 +1,6 @@
 //! Lifetime of a node: delete on no links or messages (Part 3, section 3.5.13).
 ghost use Rattle.amqp_sums.specs.Types.{composite, has_none, names_of, one_term, refl, agreement, writing_of};
-ghost use Rattle.amqp_termini.specs.Tables.{delete_on_no_links_or_messages};
+ghost use Rattle.amqp_lifetimes.specs.Tables.{delete_on_no_links_or_messages};
 
 use amqp_codec::kernel::{Composite, Fieldless, write_composite};
 use amqp_codec::{Encoder, Error, Pass, Serialize, SerializeTerm};

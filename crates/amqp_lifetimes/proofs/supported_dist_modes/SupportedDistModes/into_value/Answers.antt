@@ -2,8 +2,8 @@ use Rattle.std.proofs.Common.{◌≡◌, map, ap, ◌∙◌}
 use Rattle.amqp_model.specs.Term.{array, container}
 use Rattle.amqp_model.specs.Items.{terms_of}
 use Rattle.amqp_values.specs.laws.Values.{array_is}
-use Rattle.amqp_termini.specs.Properties.{mode_term}
-use Rattle.amqp_termini.proofs.supported_dist_modes.SupportedDistModes.into_value.Goals as goal
+use Rattle.amqp_lifetimes.specs.Properties.{mode_term}
+use Rattle.amqp_lifetimes.proofs.supported_dist_modes.SupportedDistModes.into_value.Goals as goal
 
 pub returns-clause-value : goal.returns-clause-value
 returns-clause-value c =

@@ -1,16 +1,19 @@
 //! Pairs that are put into the properties of a node (Part 3, section 3.5.9) and into sets of filters (Part 3, section 3.5.8).
 ghost use Rattle.std.specs.Prelude.{◌≡◌, IfErr, IfOk, string_bytes};
 ghost use Rattle.amqp_wire.specs.declared.error.Error.TheVariants.{Memory};
-ghost use Rattle.amqp_termini.specs.Properties.{with_pair, InsertsLifetime, InsertsModes};
+ghost use Rattle.amqp_lifetimes.specs.Properties.{with_pair, InsertsLifetime, InsertsModes};
 
 use crate::{LifetimePolicy, SupportedDistModes};
 use amqp_codec::{Error, Symbol};
-use amqp_errors::Fields;
+use amqp_maps::OrderedMap;
 use amqp_values::Value;
 use std::alloc::Global;
 
-// The fields with this pair, or the pair alone if there are no fields. The only error is `Memory`.
-pub(crate) fn inserted(
+/// Fields: a map from symbols to values of any kind (Part 2, section 2.8.13).
+pub(crate) type Fields = OrderedMap<Symbol, Value>;
+
+/// Returns the fields with this pair, or the pair alone if there are no fields. The only error is `Memory`.
+pub fn inserted(
     fields: Option<Fields>,
     key: Symbol,
     value: Value,
@@ -35,8 +38,8 @@ fn symbol_of(text: &str, alloc: Global) -> Result<Symbol, Error>
     Ok(Symbol::from_str_in(text, alloc)?)
 }
 
-// The properties with this lifetime. The only error is `Memory`.
-pub(crate) fn with_lifetime(
+/// Returns the properties with this lifetime. The only error is `Memory`.
+pub fn with_lifetime(
     properties: Option<Fields>,
     policy: LifetimePolicy,
     alloc: Global,
@@ -48,8 +51,8 @@ pub(crate) fn with_lifetime(
     inserted(properties, key, policy.into_value(alloc)?, alloc)
 }
 
-// The properties with these modes. The only error is `Memory`.
-pub(crate) fn with_modes(
+/// Returns the properties with these modes. The only error is `Memory`.
+pub fn with_modes(
     properties: Option<Fields>,
     modes: SupportedDistModes,
     alloc: Global,

@@ -1,5 +1,5 @@
-use Rattle.amqp_termini.proofs.Inserted.{inserted_under}
-use Rattle.amqp_termini.proofs.properties.with_modes.Goals as goal
+use Rattle.amqp_lifetimes.proofs.Inserted.{inserted_under}
+use Rattle.amqp_lifetimes.proofs.properties.with_modes.Goals as goal
 
 pub returns-clause-properties : goal.returns-clause-properties
 returns-clause-properties c =

@@ -4,7 +4,7 @@ use Rattle.amqp_model.specs.Term.{Term}
 use Rattle.amqp_wire.specs.declared.symbol.Symbol.{Symbol}
 use Rattle.amqp_values.specs.declared.value.Value.{Value}
 use Rattle.amqp_values.specs.Values.{value_term}
-use Rattle.amqp_termini.specs.Properties.{with_pair, InsertsUnder}
+use Rattle.amqp_lifetimes.specs.Properties.{with_pair, InsertsUnder}
 
 pub inserted_under : {E : Type 0} (before : Option (List (Symbol × Value))) (key : Symbol) (value : Value) (text : List ℕ) (term : Term)
     (r : Result (List (Symbol × Value)) E) → string_bytes key.0 ≡ text → value_term value ≡ term

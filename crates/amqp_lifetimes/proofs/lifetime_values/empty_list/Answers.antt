@@ -4,7 +4,7 @@ use Rattle.amqp_model.specs.Items.{terms_of}
 use Rattle.amqp_lookahead.specs.Members.{descriptor_of}
 use Rattle.amqp_values.specs.Values.{value_term}
 use Rattle.amqp_values.specs.laws.Values.{list_is}
-use Rattle.amqp_termini.proofs.lifetime_values.empty_list.Goals as goal
+use Rattle.amqp_lifetimes.proofs.lifetime_values.empty_list.Goals as goal
 
 pub returns-clause-value : goal.returns-clause-value
 returns-clause-value c =

@@ -5,14 +5,13 @@ ghost use Rattle.amqp_values.specs.Values.{value_term};
 ghost use Rattle.amqp_codec.specs.Agreement.{agreement};
 ghost use Rattle.amqp_containers.specs.ArrayType.{array_of, array_agreement};
 ghost use Rattle.amqp_restricted_types.specs.Termini.{distribution_mode_type};
-ghost use Rattle.amqp_termini.specs.Properties.{InsertsModes, mode_term, modes_term};
+ghost use Rattle.amqp_lifetimes.specs.Properties.{InsertsModes, mode_term, modes_term};
 
-use crate::properties::with_modes;
+use crate::properties::{Fields, with_modes};
 use amqp_codec::{
     ByteSource, Decoder, DeserializeTerm, Encoder, Error, Pass, Serialize, SerializeTerm,
 };
 use amqp_containers::Array;
-use amqp_errors::Fields;
 use amqp_restricted_types::DistributionMode;
 use amqp_values::Value;
 use std::alloc::Global;

@@ -12,8 +12,8 @@ use Rattle.amqp_restricted_types.specs.declared.distribution_mode.DistributionMo
 use Rattle.amqp_restricted_types.specs.Termini.{distribution_mode_texts}
 use Rattle.amqp_values.specs.declared.value.Value.{Value}
 use Rattle.amqp_values.specs.Values.{value_term}
-use Rattle.amqp_termini.specs.declared.lifetime_policy.LifetimePolicy.{LifetimePolicy}
-use Rattle.amqp_termini.specs.declared.lifetime_policy.LifetimePolicy.TheVariants as policy
+use Rattle.amqp_lifetimes.specs.declared.lifetime_policy.LifetimePolicy.{LifetimePolicy}
+use Rattle.amqp_lifetimes.specs.declared.lifetime_policy.LifetimePolicy.TheVariants as policy
 
 abbrev pub same_symbol : Symbol → Symbol → Bool
 same_symbol v w = bytes_eq (string_bytes v.0) (string_bytes w.0)

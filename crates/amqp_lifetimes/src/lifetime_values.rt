@@ -2,15 +2,14 @@
 ghost use Rattle.std.specs.Prelude.{◌≡◌, None, IfErr, IfOk};
 ghost use Rattle.amqp_wire.specs.declared.error.Error.TheVariants.{Memory};
 ghost use Rattle.amqp_values.specs.Values.{value_term};
-ghost use Rattle.amqp_termini.specs.Properties.{empty_list_of, lifetime_term, InsertsLifetime};
+ghost use Rattle.amqp_lifetimes.specs.Properties.{empty_list_of, lifetime_term, InsertsLifetime};
 
-use crate::properties::with_lifetime;
+use crate::properties::{Fields, with_lifetime};
 use crate::{
     DeleteOnClose, DeleteOnNoLinks, DeleteOnNoLinksOrMessages, DeleteOnNoMessages, LifetimePolicy,
 };
 use amqp_codec::{Descriptor, Error};
 use amqp_described::Described;
-use amqp_errors::Fields;
 use amqp_values::Value;
 use std::alloc::Global;
 
