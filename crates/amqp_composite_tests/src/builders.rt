@@ -1,14 +1,13 @@
 //! Each call of the builders once.
 use amqp_codec::{Descriptor, Error, Symbol};
 use amqp_containers::Array;
-use amqp_delivery::{Accepted, Outcome};
+use amqp_delivery::Outcome;
 use amqp_described::Described;
 use amqp_full_composites::parts::{fields_of, symbol_of, symbols_of, text_of};
+use amqp_lifetimes::{DeleteOnClose, LifetimePolicy, SupportedDistModes};
+use amqp_plain_states::Accepted;
 use amqp_restricted_types::{DistributionMode, TerminusDurability, TerminusExpiryPolicy};
-use amqp_termini::{
-    DeleteOnClose, FilterSet, LifetimePolicy, NodeProperties, Source, SourceBuilder,
-    SupportedDistModes, Target, TargetBuilder,
-};
+use amqp_termini::{FilterSet, NodeProperties, Source, SourceBuilder, Target, TargetBuilder};
 use amqp_test_helpers::{are_equal, check_made, is};
 use amqp_values::Value;
 use std::alloc::Global;

@@ -1,6 +1,5 @@
 //! A copy of each composite, and of each builder, is equal to it. What is copied has a value in every field.
 use amqp_codec::Error;
-use amqp_delivery::{Accepted, Released};
 use amqp_full_composites::delivery::{
     full_declare, full_declared, full_discharge, full_error, full_modified, full_received,
     full_rejected, full_transactional_state,
@@ -14,10 +13,11 @@ use amqp_full_composites::sasl::{
     full_challenge, full_init, full_mechanisms, full_outcome, full_response,
 };
 use amqp_full_composites::termini::{full_coordinator, full_source, full_target};
-use amqp_termini::{
-    DeleteOnClose, DeleteOnNoLinks, DeleteOnNoLinksOrMessages, DeleteOnNoMessages, SourceBuilder,
-    TargetBuilder,
+use amqp_lifetimes::{
+    DeleteOnClose, DeleteOnNoLinks, DeleteOnNoLinksOrMessages, DeleteOnNoMessages,
 };
+use amqp_plain_states::{Accepted, Released};
+use amqp_termini::{SourceBuilder, TargetBuilder};
 use amqp_test_helpers::{is, is_copied};
 use amqp_values::Value;
 use std::alloc::Global;

@@ -1,10 +1,10 @@
 //! An error, each delivery state and each request of a transaction once, its fields by their names (Part 2, section 2.8.14; Part 3,
 //! section 3.4; Part 4, section 4.5). The digits are written out by the standard's tables.
-use amqp_delivery::{Accepted, Released};
 use amqp_full_composites::delivery::{
     full_declare, full_declared, full_discharge, full_error, full_modified, full_received,
     full_rejected, full_transactional_state,
 };
+use amqp_plain_states::{Accepted, Released};
 use amqp_test_helpers::{check_made, check_written};
 use std::test::Fail;
 

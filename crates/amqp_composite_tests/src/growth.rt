@@ -1,8 +1,9 @@
 //! Builders while an allocation fails. Each allocation fails in turn by hand: `rt try --test --fail-alloc N`, for N from 1 on.
 use amqp_codec::Error;
+use amqp_lifetimes::{DeleteOnClose, LifetimePolicy, SupportedDistModes};
 use amqp_read_write::to_vec;
 use amqp_restricted_types::DistributionMode;
-use amqp_termini::{DeleteOnClose, LifetimePolicy, SupportedDistModes, Target, TargetBuilder};
+use amqp_termini::{Target, TargetBuilder};
 use amqp_test_helpers::check_made;
 use std::alloc::Global;
 use std::test::Fail;

@@ -1,6 +1,5 @@
 //! What is made by a call: errors, requests, frame bodies of the security layer, and defaults.
 use amqp_codec::Error as CodecError;
-use amqp_delivery::Declare;
 use amqp_errors::{
     AmqpError, ConnectionError, Error, ErrorCondition, LinkError, SessionError, TransactionError,
 };
@@ -8,6 +7,7 @@ use amqp_full_composites::delivery::{full_declare, full_error};
 use amqp_full_composites::parts::{binary_of, error_of, fields_of, text_of};
 use amqp_full_composites::performatives::full_close;
 use amqp_performatives::Close;
+use amqp_plain_states::Declare;
 use amqp_restricted_types::{TerminusDurability, TerminusExpiryPolicy};
 use amqp_sasl::{ANONYMOUS, SASL_MAJOR, SASL_MINOR, SASL_REVISION, SaslMechanisms};
 use amqp_termini::{Coordinator, Source, Target};

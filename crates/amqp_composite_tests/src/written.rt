@@ -2,12 +2,13 @@
 use amqp_codec::{Deserialize, Error, Serialize};
 use amqp_containers::Array;
 use amqp_full_composites::parts::text_of;
+use amqp_lifetimes::{
+    DeleteOnClose, DeleteOnNoLinks, DeleteOnNoLinksOrMessages, DeleteOnNoMessages, LifetimePolicy,
+    SupportedDistModes,
+};
 use amqp_read_write::{from_slice, to_vec};
 use amqp_restricted_types::{DistributionMode, TxnCapability};
-use amqp_termini::{
-    Coordinator, DeleteOnClose, DeleteOnNoLinks, DeleteOnNoLinksOrMessages, DeleteOnNoMessages,
-    LifetimePolicy, Source, SupportedDistModes, Target, TargetArchetype, TargetBuilder,
-};
+use amqp_termini::{Coordinator, Source, Target, TargetArchetype, TargetBuilder};
 use amqp_test_helpers::{are_equal, check_made, is_refused};
 use amqp_values::Value;
 use std::alloc::Global;

@@ -1,11 +1,11 @@
 -- Which member a delivery state or an outcome is (Part 3, section 3.4).
 use Rattle.std.specs.Prelude.{Bool, true, false, Option, Some, None}
-use Rattle.amqp_delivery.specs.declared.accepted.Accepted.{Accepted}
-use Rattle.amqp_delivery.specs.declared.declared.Declared.{Declared}
+use Rattle.amqp_plain_states.specs.declared.accepted.Accepted.{Accepted}
+use Rattle.amqp_plain_states.specs.declared.declared.Declared.{Declared}
+use Rattle.amqp_plain_states.specs.declared.received.Received.{Received}
+use Rattle.amqp_plain_states.specs.declared.released.Released.{Released}
 use Rattle.amqp_delivery.specs.declared.modified.Modified.{Modified}
-use Rattle.amqp_delivery.specs.declared.received.Received.{Received}
 use Rattle.amqp_delivery.specs.declared.rejected.Rejected.{Rejected}
-use Rattle.amqp_delivery.specs.declared.released.Released.{Released}
 use Rattle.amqp_delivery.specs.declared.state.DeliveryState.{DeliveryState}
 use Rattle.amqp_delivery.specs.declared.outcome.Outcome.{Outcome}
 use Rattle.amqp_delivery.specs.declared.state.DeliveryState.TheVariants as state

@@ -1,36 +1,19 @@
--- The tables of the delivery states (Part 3, section 3.4) and of transactions (Part 4, section 4.5).
+-- The tables of the delivery states that hold an error, a map or an outcome, and of the sums (Part 3, section 3.4; Part 4, section 4.5.6).
 use Rattle.std.specs.Prelude.{option_map}
 use Rattle.amqp_model.specs.FieldType.{normal}
-use Rattle.amqp_sums.specs.Types.{inl, inr, codes, refl, by_norm, TermType, boolean_type, uint_type, ulong_type, mandatory, optional}
-use Rattle.amqp_sums.specs.Types.{composite, none, field, ◌▸◌, plain, Table, fieldless, Choices, no_more, member, Chosen, SumOf, sum_of}
+use Rattle.amqp_sums.specs.Types.{inl, inr, codes, refl, by_norm, TermType, boolean_type, mandatory, optional}
+use Rattle.amqp_sums.specs.Types.{composite, none, field, ◌▸◌, plain, Table, Choices, no_more, member, Chosen, SumOf, sum_of}
 use Rattle.amqp_primitives.specs.Types.{binary_type}
 use Rattle.amqp_errors.specs.FieldsType.{fields_type}
 use Rattle.amqp_errors.specs.Tables.{error, norm_error}
-use Rattle.amqp_delivery.specs.declared.accepted.Accepted.{Accepted}
-use Rattle.amqp_delivery.specs.declared.declare.Declare.{Declare}
-use Rattle.amqp_delivery.specs.declared.declared.Declared.{Declared}
-use Rattle.amqp_delivery.specs.declared.discharge.Discharge.{Discharge}
+use Rattle.amqp_plain_states.specs.Tables.{accepted, received, released, declared}
 use Rattle.amqp_delivery.specs.declared.modified.Modified.{Modified}
-use Rattle.amqp_delivery.specs.declared.received.Received.{Received}
 use Rattle.amqp_delivery.specs.declared.rejected.Rejected.{Rejected}
-use Rattle.amqp_delivery.specs.declared.released.Released.{Released}
 use Rattle.amqp_delivery.specs.declared.transactional_state.TransactionalState.{TransactionalState}
 use Rattle.amqp_delivery.specs.declared.state.DeliveryState.{DeliveryState}
 use Rattle.amqp_delivery.specs.declared.state.DeliveryState.TheVariants as state
 use Rattle.amqp_delivery.specs.declared.outcome.Outcome.{Outcome}
 use Rattle.amqp_delivery.specs.declared.outcome.Outcome.TheVariants as outcome_of
-
--- Part 3, section 3.4.2
-abbrev pub accepted : Table Accepted
-accepted = fieldless 0x24 (codes "amqp:accepted:list") refl
-
--- Part 3, section 3.4.1
-abbrev pub received : Table Received
-received = plain 0x23 (codes "amqp:received:list")
-    (field (λ v. v.section_number) (mandatory uint_type refl refl)
-    ▸ field (λ v. v.section_offset) (mandatory ulong_type refl refl)
-    ▸ none)
-    refl refl
 
 abbrev pub norm_rejected : Rejected → Rejected
 norm_rejected v = record v { error = option_map norm_error v.error }
@@ -48,38 +31,12 @@ rejected = record {
   is_small = refl;
 }
 
--- Part 3, section 3.4.4
-abbrev pub released : Table Released
-released = fieldless 0x26 (codes "amqp:released:list") refl
-
 -- Part 3, section 3.4.5
 abbrev pub modified : Table Modified
 modified = plain 0x27 (codes "amqp:modified:list")
     (field (λ v. v.delivery_failed) (optional boolean_type refl refl)
     ▸ field (λ v. v.undeliverable_here) (optional boolean_type refl refl)
     ▸ field (λ v. v.message_annotations) (optional fields_type refl refl)
-    ▸ none)
-    refl refl
-
--- Part 4, section 4.5.2
-abbrev pub declare : Table Declare
-declare = plain 0x31 (codes "amqp:declare:list")
-    (field (λ v. v.global_id) (optional binary_type refl refl)
-    ▸ none)
-    refl refl
-
--- Part 4, section 4.5.3
-abbrev pub discharge : Table Discharge
-discharge = plain 0x32 (codes "amqp:discharge:list")
-    (field (λ v. v.txn_id) (mandatory binary_type refl refl)
-    ▸ field (λ v. v.fail) (optional boolean_type refl refl)
-    ▸ none)
-    refl refl
-
--- Part 4, section 4.5.5
-abbrev pub declared : Table Declared
-declared = plain 0x33 (codes "amqp:declared:list")
-    (field (λ v. v.txn_id) (mandatory binary_type refl refl)
     ▸ none)
     refl refl
 

@@ -4,10 +4,11 @@ ghost use Rattle.amqp_sums.specs.Choices.{sum_one, sum_agreement, sum_writing};
 ghost use Rattle.amqp_delivery.specs.Members.{as_state};
 ghost use Rattle.amqp_delivery.specs.Tables.{outcome, outcomes};
 
-use crate::{Accepted, Declared, DeliveryState, Modified, Rejected, Released};
+use crate::{DeliveryState, Modified, Rejected};
 use amqp_codec::{
     ByteSource, Decoder, DeserializeTerm, Encoder, Error, Pass, Serialize, SerializeTerm,
 };
+use amqp_plain_states::{Accepted, Declared, Released};
 use amqp_sums::{Sum, is_null_sum, read_as, read_sum, write_as};
 use std::alloc::Global;
 

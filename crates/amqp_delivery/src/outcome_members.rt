@@ -3,7 +3,8 @@ ghost use Rattle.std.specs.Prelude.{◌≡◌, None, Ok, MatchOption, IsErrAnd, 
 ghost use Rattle.amqp_delivery.specs.Members.{outcome_accepted, outcome_rejected, outcome_released, outcome_modified};
 ghost use Rattle.amqp_delivery.specs.Members.{outcome_declared};
 
-use crate::{Accepted, Declared, Modified, Outcome, Rejected, Released};
+use crate::{Modified, Outcome, Rejected};
+use amqp_plain_states::{Accepted, Declared, Released};
 
 impl Outcome {
     /// Returns whether it is the accepted outcome.

@@ -3,10 +3,11 @@ ghost use Rattle.std.specs.Prelude.{◌≡◌};
 ghost use Rattle.amqp_sums.specs.Choices.{sum_one, sum_agreement, sum_writing};
 ghost use Rattle.amqp_delivery.specs.Tables.{delivery_state, delivery_states};
 
-use crate::{Accepted, Declared, Modified, Received, Rejected, Released, TransactionalState};
+use crate::{Modified, Rejected, TransactionalState};
 use amqp_codec::{
     ByteSource, Decoder, DeserializeTerm, Encoder, Error, Pass, Serialize, SerializeTerm,
 };
+use amqp_plain_states::{Accepted, Declared, Received, Released};
 use amqp_sums::{Sum, is_null_sum, read_as, read_sum, write_as};
 use std::alloc::Global;
 

@@ -3,7 +3,8 @@ ghost use Rattle.std.specs.Prelude.{◌≡◌, None, Ok, MatchOption, IsErrAnd, 
 ghost use Rattle.amqp_delivery.specs.Members.{state_received, state_accepted, state_rejected, state_released};
 ghost use Rattle.amqp_delivery.specs.Members.{state_modified, state_declared, is_terminal};
 
-use crate::{Accepted, Declared, DeliveryState, Modified, Received, Rejected, Released};
+use crate::{DeliveryState, Modified, Rejected};
+use amqp_plain_states::{Accepted, Declared, Received, Released};
 
 impl DeliveryState {
     /// Returns whether the delivery ends in it, so that no other state follows.

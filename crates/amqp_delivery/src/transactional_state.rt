@@ -2,9 +2,10 @@
 ghost use Rattle.amqp_sums.specs.Types.{composite, fields_of, names_of, one_term, refl, agreement, writing_of};
 ghost use Rattle.amqp_delivery.specs.Tables.{transactional_state};
 
-use crate::{Outcome, TransactionId};
+use crate::Outcome;
 use amqp_codec::kernel::{Composite, FieldList, FieldRule, write_composite};
 use amqp_codec::{ByteSource, Decoder, Encoder, Error, Pass, Serialize, SerializeTerm, fields};
+use amqp_plain_states::TransactionId;
 use amqp_primitives::Binary;
 use std::alloc::Global;
 

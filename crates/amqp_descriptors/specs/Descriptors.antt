@@ -2,14 +2,15 @@
 use Rattle.std.specs.Prelude.{ℕ, Option, Some, None, List, [], ◌∷◌, map, option_map, unwrap_or}
 use Rattle.amqp_lines.specs.declared.request.TypeName.{TypeName}
 use Rattle.amqp_lines.specs.declared.request.TypeName.TheVariants as line_type
-use Rattle.amqp_delivery.specs.Tables.{accepted, declare, declared, discharge, modified, received, rejected, released, transactional_state}
+use Rattle.amqp_plain_states.specs.Tables.{accepted, declare, declared, discharge, received, released}
+use Rattle.amqp_delivery.specs.Tables.{modified, rejected, transactional_state}
 use Rattle.amqp_errors.specs.Tables.{error}
 use Rattle.amqp_attach.specs.Tables.{attach}
 use Rattle.amqp_message_headers.specs.Tables.{header, properties}
 use Rattle.amqp_performatives.specs.Tables.{begin, close, detach, disposition, ending, flow, opening, transfer}
 use Rattle.amqp_sasl.specs.Tables.{sasl_challenge, sasl_init, sasl_mechanisms, sasl_outcome, sasl_response}
+use Rattle.amqp_lifetimes.specs.Tables.{delete_on_close, delete_on_no_links, delete_on_no_links_or_messages, delete_on_no_messages}
 use Rattle.amqp_termini.specs.Tables.{coordinator, source, target}
-use Rattle.amqp_termini.specs.Tables.{delete_on_close, delete_on_no_links, delete_on_no_links_or_messages, delete_on_no_messages}
 use Rattle.amqp_sections.specs.Sections.{data_naming, sequence_naming, value_naming}
 use Rattle.amqp_map_sections.specs.MapSections.{delivery_annotations_naming, message_annotations_naming, footer_naming}
 use Rattle.amqp_map_sections.specs.MapSections.{application_properties_naming}
@@ -23,15 +24,15 @@ use Rattle.amqp_performatives.specs.declared.detach.TheConstants.Detach as detac
 use Rattle.amqp_performatives.specs.declared.end.TheConstants.End as end_constants
 use Rattle.amqp_performatives.specs.declared.close.TheConstants.Close as close_constants
 use Rattle.amqp_errors.specs.declared.error.TheConstants.Error as error_constants
-use Rattle.amqp_delivery.specs.declared.received.TheConstants.Received as received_constants
+use Rattle.amqp_plain_states.specs.declared.received.TheConstants.Received as received_constants
 use Rattle.amqp_delivery.specs.declared.rejected.TheConstants.Rejected as rejected_constants
 use Rattle.amqp_delivery.specs.declared.modified.TheConstants.Modified as modified_constants
 use Rattle.amqp_termini.specs.declared.source.TheConstants.Source as source_constants
 use Rattle.amqp_termini.specs.declared.target.TheConstants.Target as target_constants
 use Rattle.amqp_termini.specs.declared.coordinator.TheConstants.Coordinator as coordinator_constants
-use Rattle.amqp_delivery.specs.declared.declare.TheConstants.Declare as declare_constants
-use Rattle.amqp_delivery.specs.declared.discharge.TheConstants.Discharge as discharge_constants
-use Rattle.amqp_delivery.specs.declared.declared.TheConstants.Declared as declared_constants
+use Rattle.amqp_plain_states.specs.declared.declare.TheConstants.Declare as declare_constants
+use Rattle.amqp_plain_states.specs.declared.discharge.TheConstants.Discharge as discharge_constants
+use Rattle.amqp_plain_states.specs.declared.declared.TheConstants.Declared as declared_constants
 use Rattle.amqp_delivery.specs.declared.transactional_state.TheConstants.TransactionalState as transactional_state_constants
 use Rattle.amqp_sasl.specs.declared.sasl_mechanisms.TheConstants.SaslMechanisms as sasl_mechanisms_constants
 use Rattle.amqp_sasl.specs.declared.sasl_init.TheConstants.SaslInit as sasl_init_constants

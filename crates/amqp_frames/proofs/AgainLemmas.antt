@@ -14,9 +14,9 @@ use Rattle.amqp_codec.specs.laws.Term.{spelled_again}
 use Rattle.amqp_attach.specs.Tables.{performative}
 use Rattle.amqp_attach.specs.declared.performative.Performative.{Performative}
 use Rattle.amqp_frames.specs.Bodies.{IsAmqpBody, IsSaslBody}
-use Rattle.amqp_frames.specs.Tables.{sasl_frame}
+use Rattle.amqp_frame_headers.specs.Tables.{sasl_frame}
 use Rattle.amqp_frames.specs.Writing.{amqp_body}
-use Rattle.amqp_frames.specs.declared.sasl_frame.SaslFrame.{SaslFrame}
+use Rattle.amqp_frame_headers.specs.declared.sasl_frame.SaslFrame.{SaslFrame}
 
 read_again : {T : Type 0} (u : TermType T) (limits : Limits) (v : T) (more : List ℕ) → IsGreatest limits → u.is_value v → IsWritable u v
     → BeginsWithin limits (reading_of u) (written u v ++ more) (normal u.norm v) (length (written u v))

@@ -1,11 +1,8 @@
 pub mod AgainLemmas
-pub mod AnswerLemmas
 pub mod BodyLemmas
 pub mod DeliveryLemmas
-pub mod FrameLemmas
-pub mod HeaderLemmas
 pub mod LengthLemmas
 pub mod PieceLemmas
+pub mod StepLemmas
 pub mod TransferLemmas
 pub mod WriteLemmas
-pub mod WrittenLemmas

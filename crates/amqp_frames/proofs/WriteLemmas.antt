@@ -8,10 +8,10 @@ use Rattle.amqp_wire.specs.declared.error.Error.TheVariants.{Memory}
 use Rattle.amqp_encoder.specs.Refused.{TermHasCause}
 use Rattle.amqp_codec.specs.TermType.{TermType}
 use Rattle.amqp_codec.specs.Written.{Writing, AreUnwritable}
-use Rattle.amqp_frames.specs.declared.frame_header.FrameKind.{FrameKind}
-use Rattle.amqp_frames.specs.declared.frame_header.FrameKind.TheVariants.{Amqp, Sasl}
-use Rattle.amqp_frames.specs.declared.frame_header.FrameHeader.{FrameHeader}
-use Rattle.amqp_frames.specs.Frames.{greatest_size, header_of_body}
+use Rattle.amqp_frame_headers.specs.declared.frame_header.FrameKind.{FrameKind}
+use Rattle.amqp_frame_headers.specs.declared.frame_header.FrameKind.TheVariants.{Amqp, Sasl}
+use Rattle.amqp_frame_headers.specs.declared.frame_header.FrameHeader.{FrameHeader}
+use Rattle.amqp_frame_headers.specs.Frames.{greatest_size, header_of_body}
 use Rattle.amqp_frames.specs.Writing.{IsUnwritable}
 
 -- What refuses a value's canonical terms refuses its one term.

@@ -8,11 +8,11 @@ use Rattle.amqp_codec.specs.Reading.{Reading, BeginsWithin, IsUnreadableWithin, 
 use Rattle.amqp_codec.specs.TermReading.{reading_of}
 use Rattle.amqp_attach.specs.Tables.{performative}
 use Rattle.amqp_attach.specs.declared.performative.Performative.{Performative}
-use Rattle.amqp_frames.specs.Tables.{sasl_frame}
-use Rattle.amqp_frames.specs.declared.sasl_frame.SaslFrame.{SaslFrame}
-use Rattle.amqp_frames.specs.declared.frame_header.FrameHeader.{FrameHeader}
-use Rattle.amqp_frames.specs.declared.frame_header.FrameKind.{FrameKind}
-use Rattle.amqp_frames.specs.declared.frame_header.FrameKind.TheVariants.{Amqp, Sasl}
+use Rattle.amqp_frame_headers.specs.Tables.{sasl_frame}
+use Rattle.amqp_frame_headers.specs.declared.sasl_frame.SaslFrame.{SaslFrame}
+use Rattle.amqp_frame_headers.specs.declared.frame_header.FrameHeader.{FrameHeader}
+use Rattle.amqp_frame_headers.specs.declared.frame_header.FrameKind.{FrameKind}
+use Rattle.amqp_frame_headers.specs.declared.frame_header.FrameKind.TheVariants.{Amqp, Sasl}
 use Rattle.amqp_frames.specs.declared.body.AmqpBody.{AmqpBody}
 use Rattle.amqp_frames.specs.declared.body_error.BodyFault.{BodyFault}
 use Rattle.amqp_frames.specs.declared.body_error.BodyFault.TheVariants.{OtherType, Value, EmptySasl, BytesLeft}

@@ -1,7 +1,7 @@
 -- Words on what `next_frame` returns.
 use Rattle.std.specs.Prelude.{◌≡◌, ℕ, List, Result, Ok, Err, ⊤}
-use Rattle.amqp_frames.specs.declared.frame_error.FrameError.{FrameError}
-use Rattle.amqp_frames.specs.declared.frame_header.FrameHeader.{FrameHeader}
+use Rattle.amqp_frame_headers.specs.declared.frame_error.FrameError.{FrameError}
+use Rattle.amqp_frame_headers.specs.declared.frame_header.FrameHeader.{FrameHeader}
 use Rattle.amqp_frames.specs.declared.frames.Frame.{Frame}
 use Rattle.amqp_frames.specs.declared.frames.Step.{Step}
 use Rattle.amqp_frames.specs.declared.frames.Step.TheVariants as Steps

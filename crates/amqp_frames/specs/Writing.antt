@@ -12,12 +12,12 @@ use Rattle.amqp_codec.specs.TermType.{TermType}
 use Rattle.amqp_codec.specs.Spelled.{written}
 use Rattle.amqp_attach.specs.Tables.{performative}
 use Rattle.amqp_attach.specs.declared.performative.Performative.{Performative}
-use Rattle.amqp_frames.specs.Tables.{sasl_frame}
-use Rattle.amqp_frames.specs.Frames.{frame_header_bytes, header_of_body}
-use Rattle.amqp_frames.specs.declared.sasl_frame.SaslFrame.{SaslFrame}
-use Rattle.amqp_frames.specs.declared.frame_header.FrameKind.{FrameKind}
-use Rattle.amqp_frames.specs.declared.frame_error.FrameError.{FrameError}
-use Rattle.amqp_frames.specs.declared.frame_error.FrameError.TheVariants.{SizeAboveMaximum, SaslAboveLimit}
+use Rattle.amqp_frame_headers.specs.Tables.{sasl_frame}
+use Rattle.amqp_frame_headers.specs.Frames.{frame_header_bytes, header_of_body}
+use Rattle.amqp_frame_headers.specs.declared.sasl_frame.SaslFrame.{SaslFrame}
+use Rattle.amqp_frame_headers.specs.declared.frame_header.FrameKind.{FrameKind}
+use Rattle.amqp_frame_headers.specs.declared.frame_error.FrameError.{FrameError}
+use Rattle.amqp_frame_headers.specs.declared.frame_error.FrameError.TheVariants.{SizeAboveMaximum, SaslAboveLimit}
 use Rattle.amqp_frames.specs.declared.write_error.WriteError.{WriteError}
 use Rattle.amqp_frames.specs.declared.write_error.WriteError.TheVariants.{Frame, Value}
 

@@ -3,10 +3,11 @@ ghost use Rattle.std.specs.Prelude.{◌≡◌, ◌+◌, ◌*◌, ◌≤◌, ℕ,
 ghost use Rattle.amqp_frames.specs.Bodies.{IsAmqp, IsSasl, IsAmqpBody, IsSaslBody, AmqpFault, SaslFault};
 ghost use Rattle.amqp_frames.specs.Bodies.{IfBody, IfNoBody, ReturnsBody, ReturnsSasl};
 ghost use Rattle.amqp_attach.specs.declared.performative.Performative.{Performative};
-ghost use Rattle.amqp_frames.specs.declared.sasl_frame.SaslFrame.{SaslFrame};
+ghost use Rattle.amqp_frame_headers.specs.declared.sasl_frame.SaslFrame.{SaslFrame};
 
-use crate::{BodyError, BodyFault, Frame, FrameKind, SaslFrame};
+use crate::{BodyError, BodyFault, Frame};
 use amqp_attach::Performative;
+use amqp_frame_headers::{FrameKind, SaslFrame};
 use amqp_read_write::from_slice_within;
 use amqp_wire::Limits;
 use std::alloc::Global;

@@ -1,11 +1,11 @@
 //! Frames (Part 2, section 2.3; Part 5, section 5.3.1).
 ghost use Rattle.std.specs.Prelude.{◌≡◌, ◌*◌, ◌<◌, ◌≤◌, ℕ, List, length, OnOk, IfErr, MatchResult};
-ghost use Rattle.amqp_frames.specs.declared.frame_header.FrameHeader.{FrameHeader};
-ghost use Rattle.amqp_frames.specs.Frames.{size_of, data_offset_of, type_of, IsOfKind, HasSize, HasDataOffset, HasType, IsFrame, FrameFault, BeginsWithFrame, NeedsMore};
+ghost use Rattle.amqp_frame_headers.specs.declared.frame_header.FrameHeader.{FrameHeader};
+ghost use Rattle.amqp_frame_headers.specs.Frames.{size_of, data_offset_of, type_of, IsOfKind, HasSize, HasDataOffset, HasType, IsFrame, FrameFault, BeginsWithFrame, NeedsMore};
 ghost use Rattle.amqp_frames.specs.Steps.{IfFrame, IfNeeds, IsStep};
 
-use crate::frame_header::{AMQP_TYPE, HEADER_LEN, LEAST_DATA_OFFSET, SASL_TYPE};
-use crate::{FrameError, FrameHeader, FrameKind, MIN_MAX_FRAME_SIZE};
+use amqp_frame_headers::frame_header::{AMQP_TYPE, HEADER_LEN, LEAST_DATA_OFFSET, SASL_TYPE};
+use amqp_frame_headers::{FrameError, FrameHeader, FrameKind, MIN_MAX_FRAME_SIZE};
 
 /// The number of bytes of the field SIZE.
 const SIZE_LEN: usize = 4;
@@ -63,7 +63,7 @@ pub fn next_frame(input: &[u8], max_frame_size: u32) -> Result<Step<'_>, FrameEr
 }
 
 // SIZE, if it breaks no rule.
-#[tactic(auto, unfolding(crate::specs::Frames::size_of))]
+#[tactic(auto, unfolding(amqp_frame_headers::specs::Frames::size_of))]
 fn read_size(input: &[u8], max_frame_size: u32) -> Result<u32, FrameError>
     requires { 4 ≤ length input.now }
     ensures { MatchResult result (λ size. (size ≡ size_of input.now) × HasSize max_frame_size input.now)
@@ -134,7 +134,7 @@ fn split(bytes: &[u8], size: u32) -> Frame<'_>
 }
 
 // TYPE, and for an AMQP frame the channel.
-#[tactic(auto, unfolding(crate::specs::Frames::channel_of))]
+#[tactic(auto, unfolding(amqp_frame_headers::specs::Frames::channel_of))]
 fn read_kind(bytes: &[u8]) -> FrameKind
     requires there { 8 ≤ length bytes.now }
     requires known { type_of bytes.now ≤ 1 }

@@ -6,13 +6,9 @@ mod body;
 mod body_error;
 mod deliveries;
 mod delivery_error;
-mod frame_error;
-mod frame_header;
 mod frames;
 pub mod laws;
 mod pieces;
-mod protocol_header;
-mod sasl_frame;
 mod split_error;
 mod write_error;
 mod writing;
@@ -30,3 +26,23 @@ pub use sasl_frame::SaslFrame;
 pub use split_error::SplitError;
 pub use write_error::WriteError;
 pub use writing::{write_empty_frame, write_frame, write_sasl_frame};
+
+/// Why bytes are no frame or no protocol header.
+pub mod frame_error {
+    pub use amqp_frame_headers::FrameError;
+}
+
+/// The first eight bytes of a frame (Part 2, section 2.3.1; Part 5, section 5.3.1).
+pub mod frame_header {
+    pub use amqp_frame_headers::{FrameHeader, FrameKind, MIN_MAX_FRAME_SIZE};
+}
+
+/// Protocol headers: the eight bytes that a connection begins with (Part 2, section 2.2; Part 5, sections 5.2.1 and 5.3.2).
+pub mod protocol_header {
+    pub use amqp_frame_headers::{HeaderStep, ProtocolHeader, ProtocolId, next_protocol_header};
+}
+
+/// The SASL types as one type (Part 5, section 5.3.1).
+pub mod sasl_frame {
+    pub use amqp_frame_headers::SaslFrame;
+}

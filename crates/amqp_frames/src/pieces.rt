@@ -6,7 +6,7 @@ ghost use Rattle.amqp_frames.specs.Splitting.{payloads_of, transfer_terms, FitsF
 ghost use Rattle.amqp_performatives.specs.declared.transfer.Transfer.{Transfer};
 
 use crate::SplitError;
-use crate::frame_header::HEADER_LEN;
+use amqp_frame_headers::frame_header::HEADER_LEN;
 use amqp_performatives::Transfer;
 use amqp_read_write::encoded_len;
 use amqp_restricted_types::Handle;

@@ -1,7 +1,7 @@
 //! Why a frame isn't written.
 ghost use Rattle.std.specs.Prelude.{◌≡◌};
 
-use crate::FrameError;
+use amqp_frame_headers::FrameError;
 use amqp_wire::Error;
 
 /// Why a frame isn't written.

@@ -1,10 +1,9 @@
 //! States, outcomes and errors with a value in every field, and the requests and outcomes of transactions.
 use crate::parts::{binary_of, error_of, fields_of, text_fields_of, text_of};
 use amqp_codec::Error as CodecError;
-use amqp_delivery::{
-    Declare, Declared, Discharge, Modified, Outcome, Received, Rejected, TransactionalState,
-};
+use amqp_delivery::{Modified, Outcome, Rejected, TransactionalState};
 use amqp_errors::{Error, ErrorCondition, SessionError};
+use amqp_plain_states::{Declare, Declared, Discharge, Received};
 use amqp_values::Value;
 use std::alloc::Global;
 

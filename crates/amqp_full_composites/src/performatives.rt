@@ -5,9 +5,10 @@ use crate::parts::{
 use amqp_attach::{Attach, Unsettled};
 use amqp_codec::{Error as CodecError, Symbol};
 use amqp_containers::Array;
-use amqp_delivery::{Accepted, DeliveryState, Released};
+use amqp_delivery::DeliveryState;
 use amqp_errors::Fields;
 use amqp_performatives::{Begin, Close, Detach, Disposition, End, Flow, Open, Transfer};
+use amqp_plain_states::{Accepted, Released};
 use amqp_restricted_types::{
     ChannelMax, Handle, IetfLanguageTag, MaxFrameSize, ReceiverSettleMode, Role, SenderSettleMode,
 };

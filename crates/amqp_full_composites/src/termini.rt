@@ -2,7 +2,8 @@
 use crate::parts::{fields_of, symbols_of, text_of, two_symbols_of};
 use amqp_codec::{Error as CodecError, Symbol};
 use amqp_containers::Array;
-use amqp_delivery::{Accepted, Outcome};
+use amqp_delivery::Outcome;
+use amqp_plain_states::Accepted;
 use amqp_restricted_types::{
     DistributionMode, TerminusDurability, TerminusExpiryPolicy, TxnCapability,
 };

@@ -24,16 +24,17 @@ use Rattle.amqp_map_sections.specs.SimpleMaps.{simple_map_type}
 use Rattle.amqp_kinds.specs.KindSumType.{kind_sum_type}
 use Rattle.amqp_message_headers.specs.MessageIds.{message_ids}
 use Rattle.amqp_message_headers.specs.Tables.{header, properties}
-use Rattle.amqp_delivery.specs.Tables.{accepted, declare, declared, delivery_state, discharge, modified, outcome, received}
-use Rattle.amqp_delivery.specs.Tables.{rejected, released, transactional_state}
+use Rattle.amqp_plain_states.specs.Tables.{accepted, declare, declared, discharge, received, released}
+use Rattle.amqp_delivery.specs.Tables.{delivery_state, modified, outcome, rejected, transactional_state}
 use Rattle.amqp_errors.specs.Conditions.{condition_type}
 use Rattle.amqp_errors.specs.Tables.{error}
 use Rattle.amqp_attach.specs.Tables.{attach, performative}
 use Rattle.amqp_performatives.specs.Tables.{begin, close, detach, disposition, ending, flow, opening, transfer}
 use Rattle.amqp_sasl.specs.Tables.{sasl_challenge, sasl_init, sasl_mechanisms, sasl_outcome, sasl_response}
 use Rattle.amqp_simple_values.specs.SimpleType.{simple_type}
-use Rattle.amqp_termini.specs.Tables.{coordinator, delete_on_close, delete_on_no_links, delete_on_no_links_or_messages}
-use Rattle.amqp_termini.specs.Tables.{delete_on_no_messages, lifetime_policy, source, target, target_archetype}
+use Rattle.amqp_lifetimes.specs.Tables.{delete_on_close, delete_on_no_links, delete_on_no_links_or_messages, delete_on_no_messages}
+use Rattle.amqp_lifetimes.specs.Tables.{lifetime_policy}
+use Rattle.amqp_termini.specs.Tables.{coordinator, source, target, target_archetype}
 use Rattle.amqp_values.specs.ValueType.{value_type}
 use Rattle.amqp_wire.specs.Error.{number_of, name_of}
 use Rattle.amqp_lines.specs.Lines.{TakesLine}

@@ -6,24 +6,23 @@ pub mod types {
     pub use amqp_attach::{Attach, Performative};
     pub use amqp_batches::Batch;
     pub use amqp_bodies::Body;
-    pub use amqp_delivery::{
-        Accepted, Declare, Declared, DeliveryState, Discharge, Modified, Outcome, Received,
-        Rejected, Released, TransactionalState,
-    };
+    pub use amqp_delivery::{DeliveryState, Modified, Outcome, Rejected, TransactionalState};
     pub use amqp_errors::{Error as DefinedError, ErrorCondition};
+    pub use amqp_lifetimes::{
+        DeleteOnClose, DeleteOnNoLinks, DeleteOnNoLinksOrMessages, DeleteOnNoMessages,
+        LifetimePolicy,
+    };
     pub use amqp_map_sections::{
         ApplicationProperties, DeliveryAnnotations, Footer, MessageAnnotations,
     };
     pub use amqp_message_headers::{Header, MessageId, Properties};
     pub use amqp_messages::{Message, Strict};
     pub use amqp_performatives::{Begin, Close, Detach, Disposition, End, Flow, Open, Transfer};
+    pub use amqp_plain_states::{Accepted, Declare, Declared, Discharge, Received, Released};
     pub use amqp_sasl::{SaslChallenge, SaslInit, SaslMechanisms, SaslOutcome, SaslResponse};
     pub use amqp_sections::{AmqpSequence, AmqpValue, Data};
     pub use amqp_simple_values::SimpleValue;
-    pub use amqp_termini::{
-        Coordinator, DeleteOnClose, DeleteOnNoLinks, DeleteOnNoLinksOrMessages, DeleteOnNoMessages,
-        LifetimePolicy, Source, Target, TargetArchetype,
-    };
+    pub use amqp_termini::{Coordinator, Source, Target, TargetArchetype};
     pub use amqp_values::Value;
 }
 

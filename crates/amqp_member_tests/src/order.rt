@@ -1,6 +1,6 @@
 //! The order of received states.
-use amqp_delivery::Received;
 use amqp_full_composites::delivery::full_received;
+use amqp_plain_states::Received;
 
 fn received(section_number: u32, section_offset: u64) -> Received {
     Received {

@@ -1,8 +1,9 @@
 //! Which member an outcome is, and the member itself, by each call (Part 3, section 3.4; Part 4, section 4.5.5).
 use crate::parts::is_taken;
 use amqp_codec::Error;
-use amqp_delivery::{Accepted, Outcome, Released};
+use amqp_delivery::Outcome;
 use amqp_full_composites::delivery::{full_declared, full_modified, full_rejected};
+use amqp_plain_states::{Accepted, Released};
 use amqp_test_helpers::is_given_back;
 use std::alloc::Global;
 use std::convert::identity;

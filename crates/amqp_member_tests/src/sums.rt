@@ -1,14 +1,15 @@
 //! What is made of each member of the sums of states, outcomes, targets and lifetimes is that member (Part 3, sections 3.4 and 3.5).
 use crate::parts::are_equal_and_copied;
-use amqp_delivery::{Accepted, DeliveryState, Outcome, Released};
+use amqp_delivery::{DeliveryState, Outcome};
 use amqp_full_composites::delivery::{
     full_declared, full_modified, full_received, full_rejected, full_transactional_state,
 };
 use amqp_full_composites::termini::{full_coordinator, full_target};
-use amqp_termini::{
-    Coordinator, DeleteOnClose, DeleteOnNoLinks, DeleteOnNoLinksOrMessages, DeleteOnNoMessages,
-    LifetimePolicy, TargetArchetype,
+use amqp_lifetimes::{
+    DeleteOnClose, DeleteOnNoLinks, DeleteOnNoLinksOrMessages, DeleteOnNoMessages, LifetimePolicy,
 };
+use amqp_plain_states::{Accepted, Released};
+use amqp_termini::{Coordinator, TargetArchetype};
 use amqp_test_helpers::{are_equal, check_made, is, is_copied};
 use std::test::Fail;
 

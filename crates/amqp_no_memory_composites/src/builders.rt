@@ -1,11 +1,10 @@
 //! The builders of sources and targets (Part 3, sections 3.5.3 and 3.5.4).
 use amqp_codec::{Descriptor, Error, Symbol};
 use amqp_described::Described;
+use amqp_lifetimes::{DeleteOnClose, LifetimePolicy, SupportedDistModes};
 use amqp_no_memory_calls::{check, is_builder_copied, is_text};
 use amqp_restricted_types::DistributionMode;
-use amqp_termini::{
-    DeleteOnClose, LifetimePolicy, Source, SourceBuilder, SupportedDistModes, Target, TargetBuilder,
-};
+use amqp_termini::{Source, SourceBuilder, Target, TargetBuilder};
 use amqp_values::Value;
 use std::alloc::Global;
 

@@ -1,11 +1,10 @@
 //! Copies of composites that hold texts, bytes, lists, maps or boxes. Each value is read from its bytes, and copied.
 use amqp_attach::{Attach, Performative};
-use amqp_delivery::{
-    Declare, Declared, DeliveryState, Discharge, Modified, Outcome, Rejected, TransactionalState,
-};
+use amqp_delivery::{DeliveryState, Modified, Outcome, Rejected, TransactionalState};
 use amqp_errors::{Error, ErrorCondition};
 use amqp_no_memory_calls::check_copy;
 use amqp_performatives::{Begin, Close, Detach, Disposition, End, Flow, Open, Transfer};
+use amqp_plain_states::{Declare, Declared, Discharge};
 use amqp_sasl::{SaslChallenge, SaslInit, SaslMechanisms, SaslOutcome, SaslResponse};
 use amqp_termini::{Coordinator, Source, Target, TargetArchetype};
 

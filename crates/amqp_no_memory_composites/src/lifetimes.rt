@@ -1,9 +1,9 @@
 //! The lifetimes of nodes, as values and as properties (Part 3, sections 3.5.10 to 3.5.13).
 use amqp_codec::Error;
-use amqp_no_memory_calls::{check, is_text};
-use amqp_termini::{
+use amqp_lifetimes::{
     DeleteOnClose, DeleteOnNoLinks, DeleteOnNoLinksOrMessages, DeleteOnNoMessages, LifetimePolicy,
 };
+use amqp_no_memory_calls::{check, is_text};
 use std::alloc::Global;
 
 /// The lifetime until the link is closed, as a property.

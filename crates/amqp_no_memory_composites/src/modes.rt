@@ -1,8 +1,8 @@
 //! The modes in which a node distributes its messages (Part 3, section 3.5.9).
 use amqp_codec::Error;
+use amqp_lifetimes::SupportedDistModes;
 use amqp_no_memory_calls::{Growing, check, check_growing, is_text};
 use amqp_restricted_types::DistributionMode;
-use amqp_termini::SupportedDistModes;
 use std::alloc::Global;
 
 /// The mode `move`.

@@ -11,7 +11,8 @@ use Rattle.amqp_restricted_types.specs.Transport.{role_numbers, sender_settle_mo
 use Rattle.amqp_restricted_types.specs.Transactions.{txn_capability_type, txn_capability_texts}
 use Rattle.amqp_restricted_types.specs.Termini.{terminus_durability_numbers, terminus_expiry_policy_texts, distribution_mode_texts}
 use Rattle.amqp_delivery.specs.Tables.{delivery_state}
-use Rattle.amqp_termini.specs.Tables.{source, target, coordinator, lifetime_policies, lifetime_policy, target_archetypes, target_archetype}
+use Rattle.amqp_lifetimes.specs.Tables.{lifetime_policies, lifetime_policy}
+use Rattle.amqp_termini.specs.Tables.{source, target, coordinator, target_archetypes, target_archetype}
 use Rattle.amqp_attach.specs.Tables.{unsettled_type, attach, performatives, performative}
 use Rattle.amqp_placed.specs.Facing.{AreShown}
 use Rattle.amqp_placed.specs.Shown.{FieldsShown}

@@ -2,16 +2,17 @@
 ghost use Rattle.std.specs.Prelude.{◌≡◌, Some, IfErr, IfOk, IsSomeAnd};
 ghost use Rattle.amqp_wire.specs.declared.error.Error.TheVariants.{Memory};
 ghost use Rattle.amqp_values.specs.Values.{value_term};
+ghost use Rattle.amqp_lifetimes.specs.Properties.{with_pair, filter_term, Inserts, InsertsLifetime, InsertsModes};
 ghost use Rattle.amqp_termini.specs.Made.{default_source};
-ghost use Rattle.amqp_termini.specs.Properties.{with_pair, filter_term, Inserts, InsertsLifetime, InsertsModes};
 
-use crate::properties::{inserted, with_lifetime, with_modes};
-use crate::{Address, FilterSet, LifetimePolicy, Source, SupportedDistModes};
+use crate::{Address, FilterSet, Source};
 use amqp_codec::{Error, Symbol};
 use amqp_containers::Array;
 use amqp_delivery::Outcome;
 use amqp_described::Described;
 use amqp_errors::Fields;
+use amqp_lifetimes::properties::{inserted, with_lifetime, with_modes};
+use amqp_lifetimes::{LifetimePolicy, SupportedDistModes};
 use amqp_restricted_types::{DistributionMode, Seconds, TerminusDurability, TerminusExpiryPolicy};
 use amqp_values::Value;
 use std::alloc::Global;

@@ -1,14 +1,15 @@
 //! Targets that are made call by call (Part 3, section 3.5.4).
 ghost use Rattle.std.specs.Prelude.{◌≡◌, Some, IfErr, IfOk, IsSomeAnd};
 ghost use Rattle.amqp_wire.specs.declared.error.Error.TheVariants.{Memory};
+ghost use Rattle.amqp_lifetimes.specs.Properties.{InsertsLifetime, InsertsModes};
 ghost use Rattle.amqp_termini.specs.Made.{default_target};
-ghost use Rattle.amqp_termini.specs.Properties.{InsertsLifetime, InsertsModes};
 
-use crate::properties::{with_lifetime, with_modes};
-use crate::{Address, LifetimePolicy, SupportedDistModes, Target};
+use crate::{Address, Target};
 use amqp_codec::{Error, Symbol};
 use amqp_containers::Array;
 use amqp_errors::Fields;
+use amqp_lifetimes::properties::{with_lifetime, with_modes};
+use amqp_lifetimes::{LifetimePolicy, SupportedDistModes};
 use amqp_restricted_types::{Seconds, TerminusDurability, TerminusExpiryPolicy};
 use std::alloc::Global;
 

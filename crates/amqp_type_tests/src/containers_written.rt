@@ -2,7 +2,8 @@
 use crate::written::check_both_ways;
 use amqp_codec::{Deserialize, Error, Serialize, Symbol};
 use amqp_containers::Array;
-use amqp_delivery::{Accepted, DeliveryState, Released};
+use amqp_delivery::DeliveryState;
+use amqp_plain_states::{Accepted, Released};
 use amqp_read_write::{encoded_len, from_slice, to_vec};
 use amqp_test_helpers::{is_made, refusal};
 use std::alloc::Global;

@@ -19,15 +19,17 @@ pub use Rattle.amqp_errors.specs.Texts.{amqp_error_texts, connection_error_texts
 -- Part 3, section 3.2
 pub use Rattle.amqp_message_headers.specs.Tables.{header, properties}
 -- Part 3, section 3.4
-pub use Rattle.amqp_delivery.specs.Tables.{received, accepted, rejected, released, modified, delivery_states, delivery_state}
-pub use Rattle.amqp_delivery.specs.Tables.{outcomes, outcome}
+pub use Rattle.amqp_plain_states.specs.Tables.{received, accepted, released}
+pub use Rattle.amqp_delivery.specs.Tables.{rejected, modified, delivery_states, delivery_state, outcomes, outcome}
 -- Part 3, section 3.5
-pub use Rattle.amqp_termini.specs.Tables.{source, target, target_archetypes, target_archetype, lifetime_policies, lifetime_policy}
-pub use Rattle.amqp_termini.specs.Tables.{delete_on_close, delete_on_no_links, delete_on_no_messages, delete_on_no_links_or_messages}
+pub use Rattle.amqp_termini.specs.Tables.{source, target, target_archetypes, target_archetype}
+pub use Rattle.amqp_lifetimes.specs.Tables.{lifetime_policies, lifetime_policy}
+pub use Rattle.amqp_lifetimes.specs.Tables.{delete_on_close, delete_on_no_links, delete_on_no_messages, delete_on_no_links_or_messages}
 pub use Rattle.amqp_restricted_types.specs.Termini.{terminus_durability_numbers, terminus_expiry_policy_texts, distribution_mode_texts}
 -- Part 4, section 4.5
 pub use Rattle.amqp_termini.specs.Tables.{coordinator}
-pub use Rattle.amqp_delivery.specs.Tables.{declare, discharge, declared, transactional_state}
+pub use Rattle.amqp_plain_states.specs.Tables.{declare, discharge, declared}
+pub use Rattle.amqp_delivery.specs.Tables.{transactional_state}
 pub use Rattle.amqp_restricted_types.specs.Transactions.{txn_capability_texts}
 pub use Rattle.amqp_errors.specs.Texts.{transaction_error_texts}
 -- Part 5, section 5.3.3

@@ -17,6 +17,6 @@ pub use Rattle.amqp_restricted_types.specs.Orders.{role_place, txn_capability_pl
 pub use Rattle.amqp_delivery.specs.Members.{state_received, state_accepted, state_rejected, state_released, state_modified, state_declared}
 pub use Rattle.amqp_delivery.specs.Members.{outcome_accepted, outcome_rejected, outcome_released, outcome_modified, outcome_declared}
 pub use Rattle.amqp_delivery.specs.Members.{is_terminal, as_state}
+pub use Rattle.amqp_lifetimes.specs.Properties.{Inserts, InsertsLifetime, InsertsModes, with_pair, empty_list_of, lifetime_term, mode_term}
+pub use Rattle.amqp_lifetimes.specs.Properties.{modes_term, filter_term}
 pub use Rattle.amqp_termini.specs.Made.{default_source, default_target, source_at, target_at, archetype_target, archetype_coordinator}
-pub use Rattle.amqp_termini.specs.Properties.{Inserts, InsertsLifetime, InsertsModes, with_pair, empty_list_of, lifetime_term, mode_term}
-pub use Rattle.amqp_termini.specs.Properties.{modes_term, filter_term}

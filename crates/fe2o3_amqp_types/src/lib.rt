@@ -131,21 +131,23 @@ pub mod messaging {
         IntoBody, IntoData, IntoSequence, PlainFromBody, PlainIntoBody, SequenceIter,
         SerializableBody, TransposeOption, ValueBody, ValueFromBody,
     };
-    pub use amqp_delivery::{
-        Accepted, DeliveryState, Modified, Outcome, Received, Rejected, Released,
+    pub use amqp_delivery::{DeliveryState, Modified, Outcome, Rejected};
+    pub use amqp_lifetimes::{
+        DeleteOnClose, DeleteOnNoLinks, DeleteOnNoLinksOrMessages, DeleteOnNoMessages,
+        LifetimePolicy, SupportedDistModes,
     };
     pub use amqp_map_sections::{
         ApplicationProperties, DeliveryAnnotations, Footer, MessageAnnotations,
     };
     pub use amqp_message_headers::{Header, MESSAGE_FORMAT, MessageId, Priority, Properties};
     pub use amqp_messages::Message;
+    pub use amqp_plain_states::{Accepted, Received, Released};
     pub use amqp_restricted_types::{DistributionMode, TerminusDurability, TerminusExpiryPolicy};
     pub use amqp_section_slices::{Section, SectionKind, Sections, split_section};
     pub use amqp_sections::{AmqpSequence, AmqpValue, Data};
     pub use amqp_termini::{
-        Address, DeleteOnClose, DeleteOnNoLinks, DeleteOnNoLinksOrMessages, DeleteOnNoMessages,
-        FilterSet, LifetimePolicy, NodeProperties, Source, SourceBuilder, SupportedDistModes,
-        Target, TargetArchetype, TargetBuilder,
+        Address, FilterSet, NodeProperties, Source, SourceBuilder, Target, TargetArchetype,
+        TargetBuilder,
     };
 
     /// Whole messages, and strict ones (Part 3, section 3.2).
@@ -213,8 +215,9 @@ pub mod states {
 
 /// The types of transactions (Part 4).
 pub mod transaction {
-    pub use amqp_delivery::{Declare, Declared, Discharge, TransactionId, TransactionalState};
+    pub use amqp_delivery::TransactionalState;
     pub use amqp_errors::TransactionError;
+    pub use amqp_plain_states::{Declare, Declared, Discharge, TransactionId};
     pub use amqp_restricted_types::TxnCapability;
     pub use amqp_termini::Coordinator;
 }

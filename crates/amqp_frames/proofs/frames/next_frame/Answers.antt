@@ -1,6 +1,7 @@
 use Rattle.std.proofs.Common.{arith, rules}
-use Rattle.amqp_frames.proofs.AnswerLemmas.{needs_before_size, needs_after_size, whole_sound, whole_size, frame_begins, frame_or_need, found}
-use Rattle.amqp_frames.proofs.FrameLemmas.{one_frame}
+use Rattle.amqp_frame_headers.proofs.AnswerLemmas.{needs_before_size, needs_after_size, whole_sound, whole_size, frame_begins, frame_or_need}
+use Rattle.amqp_frame_headers.proofs.FrameLemmas.{one_frame}
+use Rattle.amqp_frames.proofs.StepLemmas.{found}
 use Rattle.amqp_frames.proofs.frames.next_frame.Goals as goal
 
 pub returns-then-input-lt-SIZE_LEN-clause-needs : goal.returns-then-input-lt-SIZE_LEN-clause-needs

@@ -1,7 +1,7 @@
-use Rattle.amqp_frames.specs.declared.frame_header.FrameKind.TheVariants.{Amqp}
+use Rattle.amqp_frame_headers.specs.declared.frame_header.FrameKind.TheVariants.{Amqp}
 use Rattle.amqp_frames.specs.Writing.{amqp_body}
 use Rattle.amqp_frames.proofs.AgainLemmas.{amqp_again}
-use Rattle.amqp_frames.proofs.WrittenLemmas.{written_is_read}
+use Rattle.amqp_frame_headers.proofs.WrittenLemmas.{written_is_read}
 use Rattle.amqp_frames.proofs.laws.written_frame_is_read.Goals as goal
 
 pub returns-clause-frame : goal.returns-clause-frame

@@ -4,7 +4,7 @@ use Rattle.std.proofs.lemmas.Result.{err_from_is_err_and}
 use Rattle.amqp_encoder.specs.Passes.{row_text}
 use Rattle.amqp_codec.specs.Spelled.{written}
 use Rattle.amqp_read_write.proofs.Passes.{filled, never_filled_in_part}
-use Rattle.amqp_frames.specs.Frames.{frame_header_bytes}
+use Rattle.amqp_frame_headers.specs.Frames.{frame_header_bytes}
 use Rattle.amqp_frames.proofs.WriteLemmas.{kept_front, greatest_below, sized, framed}
 use Rattle.amqp_frames.proofs.writing.append_frame.Goals as goal
 

@@ -1,6 +1,6 @@
 use Rattle.std.proofs.Common.{append-nil}
 use Rattle.amqp_codec.specs.Spelled.{written}
-use Rattle.amqp_frames.specs.Tables.{sasl_frame}
+use Rattle.amqp_frame_headers.specs.Tables.{sasl_frame}
 use Rattle.amqp_frames.proofs.writing.write_sasl_frame.Goals as goal
 
 pub returns-clause-text : goal.returns-clause-text

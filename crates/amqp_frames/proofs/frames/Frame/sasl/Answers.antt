@@ -1,6 +1,6 @@
 use Rattle.std.proofs.Common.{arith, ap, ◌∙◌}
 use Rattle.amqp_codec.specs.TermReading.{reading_of}
-use Rattle.amqp_frames.specs.Tables.{sasl_frame}
+use Rattle.amqp_frame_headers.specs.Tables.{sasl_frame}
 use Rattle.amqp_frames.specs.declared.body_error.BodyFault.TheVariants.{Value}
 use Rattle.amqp_frames.proofs.BodyLemmas.{none_there, is_there, unread, only_memory}
 use Rattle.amqp_frames.proofs.frames.Frame.sasl.Goals as goal

@@ -1,0 +1,4 @@
+pub mod AnswerLemmas
+pub mod FrameLemmas
+pub mod HeaderLemmas
+pub mod WrittenLemmas

@@ -1,0 +1,4 @@
+pub mod FrameErrors
+pub mod Frames
+pub mod Headers
+pub mod Tables

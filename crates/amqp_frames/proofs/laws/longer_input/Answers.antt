@@ -1,8 +1,0 @@
-use Rattle.amqp_frames.proofs.FrameLemmas.{frame_longer, fault_longer}
-use Rattle.amqp_frames.proofs.laws.longer_input.Goals as goal
-
-pub returns-clause-frame : goal.returns-clause-frame
-returns-clause-frame c = frame_longer
-
-pub returns-clause-fault : goal.returns-clause-fault
-returns-clause-fault c = fault_longer

@@ -1,5 +1,0 @@
-use Rattle.amqp_frames.proofs.AnswerLemmas.{prefix_needs_more}
-use Rattle.amqp_frames.proofs.laws.prefix_needs_more.Goals as goal
-
-pub returns : goal.returns
-returns c = prefix_needs_more

@@ -1,5 +1,0 @@
-use Rattle.amqp_frames.proofs.HeaderLemmas.{header_written}
-use Rattle.amqp_frames.proofs.laws.protocol_header_is_read.Goals as goal
-
-pub returns : goal.returns
-returns c = header_written

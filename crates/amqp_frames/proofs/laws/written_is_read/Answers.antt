@@ -1,5 +1,0 @@
-use Rattle.amqp_frames.proofs.WrittenLemmas.{written_is_read}
-use Rattle.amqp_frames.proofs.laws.written_is_read.Goals as goal
-
-pub returns : goal.returns
-returns c = written_is_read
