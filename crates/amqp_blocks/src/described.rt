@@ -1,8 +1,8 @@
 //! Descriptors in an input.
 use crate::numbers::unsigned;
+use amqp_catalogue::TypeName;
 use amqp_descriptors::{code_of_symbol, type_of_code};
 use amqp_kinds::{Kind, kind_of};
-use amqp_lines::TypeName;
 use amqp_nodes::{Node, next_node};
 
 /// Returns the code that a descriptor in the input has, or that its symbol means.

@@ -1,7 +1,7 @@
 //! What is told of a term: its values, one after another.
+use amqp_catalogue::TypeName;
 use amqp_descriptors::Content;
 use amqp_kinds::Kind;
-use amqp_lines::TypeName;
 use amqp_nodes::Node;
 
 /// What a value is in the one around it.

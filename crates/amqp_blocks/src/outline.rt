@@ -8,9 +8,9 @@ ghost use Rattle.amqp_blocks.specs.Outlines.{IsMet, IsMetAt, IsInside, IfPart, G
 use crate::broken::broken_node;
 use crate::described::type_of_descriptor;
 use crate::entry::{Entry, Label, Shape};
+use amqp_catalogue::TypeName;
 use amqp_descriptors::{Content, content_of, default_of, field_names};
 use amqp_kinds::{Kind, kind_of};
-use amqp_lines::TypeName;
 use amqp_nodes::{Node, next_node};
 use std::alloc::{AllocError, Global};
 

@@ -1,9 +1,9 @@
 //! The path to a place in a term, in the names of fields, as `attach.source.filter["x"]`.
 use crate::described::type_at;
 use crate::value_text::write_value;
+use amqp_catalogue::TypeName;
 use amqp_descriptors::{field_name, missing_field, name_of};
 use amqp_kinds::{Kind, kind_of};
-use amqp_lines::TypeName;
 use amqp_nodes::{Node, next_node};
 use fe2o3_amqp_types::codec::{ContainerKind, Error, PathNode, Piece, path_of, term_len};
 use std::alloc::{AllocError, Global};

@@ -9,8 +9,8 @@ use crate::described::type_at;
 use crate::frames::Frames;
 use crate::message::Sections;
 use crate::term::Term;
+use amqp_catalogue::TypeName;
 use amqp_descriptors::is_section;
-use amqp_lines::TypeName;
 use std::alloc::{AllocError, Global};
 
 /// What an input is.

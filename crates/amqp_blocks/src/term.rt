@@ -7,7 +7,7 @@ use crate::block::{Block, Subject};
 use crate::bounds::Bounds;
 use crate::fault::{Cause, Fault, Verdict, verdict_of, verdict_of_term};
 use crate::outline::{Outline, outline_at};
-use amqp_lines::{TypeName, types};
+use amqp_catalogue::{TypeName, types};
 use fe2o3_amqp_types::codec::{LazyValue, Limits};
 use std::alloc::{AllocError, Global};
 
@@ -82,6 +82,6 @@ impl Term {
 fn verdict_of_type(named: TypeName, input: &[u8], limits: &Limits, alloc: Global) -> Verdict
     ensures { EndsWithin (length input.now) result }
 {
-    use amqp_lines::types::*;
+    use amqp_catalogue::types::*;
     types!(named, verdict_of(input, limits, alloc))
 }

@@ -2,7 +2,7 @@
 use Rattle.std.proofs.Common.{◌≡◌, ℕ, zero, suc, ◌+◌, ◌<◌, Bool, true, false, ◌&&◌, eqb, not, cond, nat_lt, List}
 use Rattle.std.proofs.Common.{[], ◌∷◌, length, get_or, bytes_eq, Bor, Some, None}
 use Rattle.std.proofs.Common.{inl, inr, refl, sym, ap, ◌∙◌, arith}
-use Rattle.amqp_lines.specs.Rows.{in_order}
+use Rattle.amqp_catalogue.specs.Rows.{in_order}
 use Rattle.std.specs.Cmp.{first_so, second_so}
 use Rattle.std.proofs.lemmas.Bool.{eqb-true, ltb-false, not-true}
 use Rattle.std.proofs.lemmas.List.Sums.{prefix_len_passes}

@@ -1,8 +1,8 @@
 use Rattle.std.proofs.Common.{sym, ◌∙◌}
-use Rattle.amqp_lines.specs.Answers.{type_name}
-use Rattle.amqp_lines.specs.contracts.request.TypeName.{the_type}
-use Rattle.amqp_lines.proofs.Rows.{row_named, not_named}
-use Rattle.amqp_lines.proofs.request.named.Goals as goal
+use Rattle.amqp_catalogue.specs.NamedTypes.{type_name}
+use Rattle.amqp_catalogue.specs.contracts.type_name.TypeName.{the_type}
+use Rattle.amqp_catalogue.proofs.Rows.{row_named, not_named}
+use Rattle.amqp_catalogue.proofs.type_name.named.Goals as goal
 
 pub returns-in_err-place : goal.returns-in_err-place
 returns-in_err-place c = rw c.from_residual.ensures

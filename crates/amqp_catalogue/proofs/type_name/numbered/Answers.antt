@@ -1,9 +1,9 @@
 use Rattle.std.proofs.Common.{arith, []}
-use Rattle.amqp_lines.specs.Answers.{type_name}
-use Rattle.amqp_lines.specs.contracts.request.TypeName.{the_type}
-use Rattle.amqp_lines.specs.declared.request.TypeName.TheVariants.{Accepted}
-use Rattle.amqp_lines.proofs.Rows.{at_place, each_listed}
-use Rattle.amqp_lines.proofs.request.numbered.Goals as goal
+use Rattle.amqp_catalogue.specs.NamedTypes.{type_name}
+use Rattle.amqp_catalogue.specs.contracts.type_name.TypeName.{the_type}
+use Rattle.amqp_catalogue.specs.declared.type_name.TypeName.TheVariants.{Accepted}
+use Rattle.amqp_catalogue.proofs.Rows.{at_place, each_listed}
+use Rattle.amqp_catalogue.proofs.type_name.numbered.Goals as goal
 
 pub returns-then-before-rows : goal.returns-then-before-rows
 returns-then-before-rows c =

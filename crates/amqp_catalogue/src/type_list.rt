@@ -1,4 +1,4 @@
-//! The types that a line may name, in one list.
+//! The types that lines and calls may name, in one list.
 
 /// The Rust types of the list, for the callers of `types!`.
 pub mod types {
@@ -27,7 +27,7 @@ pub mod types {
     pub use amqp_values::Value;
 }
 
-/// The list of the types that a line may name, in the order of `TypeName`: the name in a line, the value of `TypeName`, and the Rust type.
+/// The list of the types that lines and calls may name, in the order of `TypeName`: the name, the value of `TypeName`, and the Rust type.
 ///
 /// `types!(names)` is a slice of the names, each with its `TypeName`. `types!(name, call(arguments))` is a match over a `TypeName`: the arm of
 /// a type calls the generic function `call` of the Rust type. The module `types` has to be in scope with all its names.

@@ -1,4 +1,4 @@
--- Batches, bodies and messages: how lines read them, and the terms that they are written as (Part 3, section 3.2).
+-- Batches, bodies and messages of the list: how they are read, and the terms that they are written as (Part 3, section 3.2).
 use Rattle.std.proofs.Common.{List, refl}
 use Rattle.amqp_model.specs.Term.{Term, list}
 use Rattle.amqp_codec.specs.TermType.{TermType}
