@@ -1,6 +1,6 @@
 //! The program's arguments.
-use amqp_blocks::{Bounds, Form, Options};
 use amqp_catalogue::TypeName;
+use amqp_faults::{Bounds, Form, Options};
 use anyhow::bail;
 use clap::{Arg, ArgGroup, ArgMatches, Command, arg, value_parser};
 use std::alloc::{AllocError, Global};

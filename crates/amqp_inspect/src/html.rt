@@ -1,6 +1,6 @@
 //! Blocks in the page for a browser (HTML): each is an element with its bytes and its line of JSON. The page's script shows the bytes beside the
 //! values.
-use amqp_blocks::write_digits;
+use amqp_faults::write_digits;
 use std::alloc::AllocError;
 
 /// Appends a block: its bytes in hexadecimal digits, and its object of JSON.

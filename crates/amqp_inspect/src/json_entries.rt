@@ -2,10 +2,9 @@
 use crate::json::{put_span, put_text};
 use crate::json_value::json_of_value;
 use crate::part::Part;
-use amqp_blocks::{
-    Entry, Head, Label, Longer, Shape, longer_descriptor, longer_head, type_name, write_digits,
-};
 use amqp_descriptors::{Content, default_of, field_name, name_of};
+use amqp_faults::{type_name, write_digits};
+use amqp_outlines::{Entry, Head, Label, Longer, Shape, longer_descriptor, longer_head};
 use serde_json::{Map, Value, put};
 use std::alloc::{AllocError, Global};
 use std::fmt::Write;
