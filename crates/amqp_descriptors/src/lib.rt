@@ -1,5 +1,5 @@
-//! The standard's described types by their descriptors (Part 1, section 1.5): the type that a code, a symbol or a descriptor in an input names,
-//! what it describes, and the names, the default values and the meanings of its fields; and the numbers that fixed data encodes.
+//! The standard's described types by their descriptors (Part 1, section 1.5): the type that a code, a symbol or a node names, what it
+//! describes, and the names, the default values and the meanings of its fields; and the numbers that data encodes.
 #![tactic(auto)]
 
 mod codes;

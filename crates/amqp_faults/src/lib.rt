@@ -1,5 +1,5 @@
-//! What is wrong with bytes of AMQP 1.0: faults, each with its cause, its place and the path to it, in the names of the standard's fields. And
-//! the words that they are told in: primitive values as text, and what is asked of an input.
+//! What is wrong with bytes of AMQP 1.0: faults, each with its cause, its place and the path to it, in the names of the standard's fields.
+//! Besides, primitive values as text, and what an input is to be read as, within which limits.
 #![tactic(auto)]
 
 mod bounds;

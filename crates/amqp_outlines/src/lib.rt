@@ -1,5 +1,5 @@
-//! The outline of a term: the values in it, one after another, each with its place, its depth and its name. What isn't canonical is found by
-//! `longer_head` and `longer_descriptor`.
+//! The outline of a term: the values in it, one after another, each with its place, its depth and its name. What isn't canonical is found
+//! by `longer_head` and `longer_descriptor`.
 #![tactic(auto)]
 
 mod broken;
