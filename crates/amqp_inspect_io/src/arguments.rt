@@ -16,23 +16,28 @@ The status is 0 if all is well, 1 if there is a fault, and 2 if the arguments ar
 
 /// What is printed.
 #[derive(Clone, Copy, Debug, PartialEq, Eq)]
-pub(crate) enum Answer {
+pub enum Answer {
+    /// Lines of text.
     Text,
+    /// A line of JSON for each block.
     Json,
+    /// A page for a browser.
     Html,
 }
 
 /// What the arguments ask for.
 #[derive(Clone, Copy, Debug, PartialEq, Eq)]
-pub(crate) struct Arguments {
-    pub(crate) hex: bool,
-    pub(crate) answer: Answer,
+pub struct Arguments {
+    /// Whether the input is hexadecimal digits.
+    pub hex: bool,
+    /// What is printed.
+    pub answer: Answer,
     /// What the input is to be read as.
-    pub(crate) options: Options,
+    pub options: Options,
 }
 
 /// Returns the command line of the program. The names are those that `--type` takes.
-pub(crate) fn command<'a>(names: &'a [&'a str], alloc: Global) -> Result<Command<'a>, AllocError> {
+pub fn command<'a>(names: &'a [&'a str], alloc: Global) -> Result<Command<'a>, AllocError> {
     let command = Command::new(alloc, "amqp-inspect")
         .about(ABOUT)
         .override_usage(USAGE)
@@ -114,7 +119,7 @@ fn with_limits<'a>(command: Command<'a>, alloc: Global) -> Result<Command<'a>, A
 
 impl Arguments {
     /// Returns what the matches of the command line ask for.
-    pub(crate) fn new(matches: &ArgMatches<'_>) -> Result<Arguments, anyhow::Error> {
+    pub fn new(matches: &ArgMatches<'_>) -> Result<Arguments, anyhow::Error> {
         Ok(Arguments {
             hex: matches.get_flag("hex"),
             answer: answer_of(matches),

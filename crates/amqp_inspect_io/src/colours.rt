@@ -4,22 +4,24 @@ use std::io::IsTerminal;
 
 /// What is written before a part of the text, and what ends its colour: sequences of a terminal (ECMA-48, section 8.3.117), or nothing.
 #[derive(Clone, Copy, Debug, PartialEq, Eq)]
-pub(crate) struct Colours {
+pub struct Colours {
     /// Before the first word of a block and the name of a type.
-    pub(crate) heading: &'static str,
+    pub heading: &'static str,
     /// Before the name of a field.
-    pub(crate) name: &'static str,
+    pub name: &'static str,
     /// Before a default value.
-    pub(crate) faint: &'static str,
+    pub faint: &'static str,
     /// Before an encoding that isn't canonical.
-    pub(crate) longer: &'static str,
+    pub longer: &'static str,
     /// Before a fault.
-    pub(crate) fault: &'static str,
-    pub(crate) end: &'static str,
+    pub fault: &'static str,
+    /// Behind each of these.
+    pub end: &'static str,
 }
 
 impl Colours {
-    pub(crate) const NONE: Colours = Colours {
+    /// No colours.
+    pub const NONE: Colours = Colours {
         heading: "",
         name: "",
         faint: "",
@@ -38,7 +40,7 @@ impl Colours {
     };
 
     /// Returns the colours for standard output: none if it is no terminal, or if the environment has `NO_COLOR` with a value.
-    pub(crate) fn of_output(rt: &HostRuntime) -> Colours {
+    pub fn of_output(rt: &HostRuntime) -> Colours {
         if rt.stdout().is_terminal() && !has_no_color(rt) {
             Colours::TERMINAL
         } else {

@@ -6,11 +6,14 @@ const MOST_DIGITS: usize = 16;
 
 /// Why a text is no bytes.
 #[derive(Clone, Copy, Debug, PartialEq, Eq, thiserror::Error)]
-pub(crate) enum DigitError {
+pub enum DigitError {
+    /// The line with this number has a character that is no digit.
     #[error("line {0} of the input has a character that is no hexadecimal digit")]
     NoDigit(u64),
+    /// The last byte has one digit.
     #[error("the number of hexadecimal digits is odd")]
     Odd,
+    /// An allocation failed.
     #[error("out of memory")]
     Memory,
 }

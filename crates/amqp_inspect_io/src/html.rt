@@ -4,7 +4,7 @@ use amqp_faults::write_digits;
 use std::alloc::AllocError;
 
 /// Appends a block: its bytes in hexadecimal digits, and its object of JSON.
-pub(crate) fn write_element(out: &mut String, bytes: &[u8], json: &str) -> Result<(), AllocError> {
+pub fn write_element(out: &mut String, bytes: &[u8], json: &str) -> Result<(), AllocError> {
     out.push_str("<script type=\"application/json\" class=\"block\" data-bytes=\"")?;
     write_digits(out, bytes)?;
     out.push_str("\">")?;

@@ -5,11 +5,11 @@ use std::io;
 use std::io::Read;
 
 /// How many bytes are read at once.
-pub(crate) const PIECE: usize = 1 << 16;
+pub const PIECE: usize = 1 << 16;
 
 /// The bytes of the input that have been read, and not been told yet.
 #[derive(Drop)]
-pub(crate) struct Input {
+pub struct Input {
     digits: Option<Digits>,
     bytes: Vec<u8>,
     // How many of the bytes have been told.
@@ -19,18 +19,21 @@ pub(crate) struct Input {
 
 /// Why the input can't be read.
 #[derive(Debug, Drop, thiserror::Error)]
-pub(crate) enum InputError {
+pub enum InputError {
+    /// Its digits are no bytes.
     #[error("{0}")]
     Digits(#[from] DigitError),
+    /// It could not be read.
     #[error("{0}")]
     Read(#[from] io::Error),
+    /// An allocation failed.
     #[error("out of memory")]
     Memory(#[from] AllocError),
 }
 
 impl Input {
     /// An input of bytes, or of hexadecimal digits.
-    pub(crate) fn new(is_hex: bool, alloc: Global) -> Input {
+    pub fn new(is_hex: bool, alloc: Global) -> Input {
         Input {
             digits: if is_hex {
                 Some(Digits::new(alloc))
@@ -44,26 +47,22 @@ impl Input {
     }
 
     /// The bytes that have been read, and not been told yet.
-    pub(crate) fn rest(&self) -> &[u8] {
+    pub fn rest(&self) -> &[u8] {
         self.bytes.get(self.told..).unwrap_or_default()
     }
 
     /// Whether the input ends with them.
-    pub(crate) fn is_end(&self) -> bool {
+    pub fn is_end(&self) -> bool {
         self.is_end
     }
 
     /// So many more bytes have been told.
-    pub(crate) fn tell(&mut self, len: usize) {
+    pub fn tell(&mut self, len: usize) {
         self.told = self.told.saturating_add(len).min(self.bytes.len());
     }
 
     /// Reads one more piece. The bytes that have been told are dropped.
-    pub(crate) fn fill<R: Read>(
-        &mut self,
-        reader: &mut R,
-        piece: &mut [u8],
-    ) -> Result<(), InputError> {
+    pub fn fill<R: Read>(&mut self, reader: &mut R, piece: &mut [u8]) -> Result<(), InputError> {
         let told = self.told.min(self.bytes.len());
         self.bytes.drain(..told);
         self.told = 0;

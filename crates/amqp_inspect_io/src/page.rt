@@ -2,7 +2,7 @@
 //! part of the page.
 
 /// What comes before the blocks.
-pub(crate) const HEAD: &str = r#"<!DOCTYPE html>
+pub const HEAD: &str = r#"<!DOCTYPE html>
 <html lang="en">
 <head>
 <meta charset="utf-8">
@@ -43,7 +43,7 @@ li.fault > .line, .faults { color: var(--fault); }
 "#;
 
 /// What comes behind them.
-pub(crate) const END: &str = r#"<script>
+pub const END: &str = r#"<script>
 "use strict";
 const bytesPane = document.getElementById("bytes");
 const tree = document.getElementById("tree");

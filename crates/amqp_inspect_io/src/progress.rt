@@ -6,7 +6,7 @@ const STEP: usize = 1 << 20;
 
 /// A line on standard error that tells how far the program is. It is there if standard error is a terminal, and standard output is none.
 #[derive(Clone, Copy, Debug, PartialEq, Eq)]
-pub(crate) struct Progress {
+pub struct Progress {
     is_shown: bool,
     // How many bytes have to be told before the next line.
     next: usize,
@@ -14,7 +14,8 @@ pub(crate) struct Progress {
 }
 
 impl Progress {
-    pub(crate) fn new(rt: &HostRuntime) -> Progress {
+    /// Nothing has been told yet.
+    pub fn new(rt: &HostRuntime) -> Progress {
         Progress {
             is_shown: rt.stderr().is_terminal() && !rt.stdout().is_terminal(),
             next: STEP,
@@ -23,7 +24,7 @@ impl Progress {
     }
 
     /// So many bytes have been told in all.
-    pub(crate) fn tell(&mut self, rt: &HostRuntime, told: usize) -> Result<(), anyhow::Error> {
+    pub fn tell(&mut self, rt: &HostRuntime, told: usize) -> Result<(), anyhow::Error> {
         if self.is_shown && told >= self.next {
             self.next = told.saturating_add(STEP);
             self.has_line = true;
@@ -33,7 +34,7 @@ impl Progress {
     }
 
     /// Clears the line.
-    pub(crate) fn end(&self, rt: &HostRuntime) -> Result<(), anyhow::Error> {
+    pub fn end(&self, rt: &HostRuntime) -> Result<(), anyhow::Error> {
         if self.has_line {
             eprint!(rt; "\r\x1b[K")?;
         }
