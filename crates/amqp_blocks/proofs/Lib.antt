@@ -1,3 +1,1 @@
 pub mod BlockLemmas
-pub mod OutlineLemmas
-pub mod NodeLemmas

@@ -6,18 +6,18 @@ use Rattle.amqp_frames.specs.declared.frame_header.FrameHeader.{FrameHeader}
 use Rattle.amqp_frames.specs.declared.frame_header.FrameKind.{FrameKind}
 use Rattle.amqp_frames.specs.Frames.{BeginsWithFrame}
 use Rattle.amqp_frames.specs.Headers.{BeginsWithHeader}
+use Rattle.amqp_outlines.specs.Spans.{IsOutline}
+use Rattle.amqp_faults.specs.declared.fault.Fault.{Fault}
+use Rattle.amqp_faults.specs.declared.options.Form.{Form}
+use Rattle.amqp_faults.specs.declared.options.Form.TheVariants as form
 use Rattle.amqp_blocks.specs.declared.block.Block.{Block}
 use Rattle.amqp_blocks.specs.declared.block.Subject.{Subject}
 use Rattle.amqp_blocks.specs.declared.block.Subject.TheVariants.{ProtocolHeader, Frame, NoFrame, CutFrame, Section, Term, Rest}
-use Rattle.amqp_blocks.specs.declared.fault.Fault.{Fault}
 use Rattle.amqp_blocks.specs.declared.frames.Performed.{Performed}
 use Rattle.amqp_blocks.specs.declared.frames.Performed.TheVariants.{WithMessage, Other, Refused}
 use Rattle.amqp_blocks.specs.declared.message.Sections.{Sections}
-use Rattle.amqp_blocks.specs.declared.source.Form.{Form}
-use Rattle.amqp_blocks.specs.declared.source.Form.TheVariants as form
 use Rattle.amqp_blocks.specs.declared.source.Source.{Source}
 use Rattle.amqp_blocks.specs.declared.source.Source.TheVariants as source
-use Rattle.amqp_blocks.specs.Spans.{IsOutline}
 
 -- The fault is at one of the first n bytes, or at their end.
 abbrev pub StandsWithin : ℕ → Fault → Type 0

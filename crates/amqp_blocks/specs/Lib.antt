@@ -1,4 +1,2 @@
-pub mod Spans
-pub mod Outlines
-pub mod Faults
+pub mod Verdicts
 pub mod Blocks

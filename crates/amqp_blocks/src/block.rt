@@ -1,11 +1,11 @@
 //! Blocks: the parts of an input.
 ghost use Rattle.std.specs.Prelude.{◌≡◌, ℕ, IfOk, IfSome};
+ghost use Rattle.amqp_outlines.specs.Spans.{IsOutline};
 ghost use Rattle.amqp_blocks.specs.Blocks.{IsBlock, IsTile, StandsWithin};
-ghost use Rattle.amqp_blocks.specs.Spans.{IsOutline};
 
-use crate::entry::Entry;
-use crate::fault::Fault;
+use amqp_faults::Fault;
 use amqp_frames::{FrameKind, ProtocolHeader};
+use amqp_outlines::Entry;
 use std::alloc::{AllocError, Global};
 
 /// A range of bytes: the place of its first byte, and the place behind its last one.

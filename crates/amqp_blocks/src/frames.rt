@@ -6,13 +6,13 @@ ghost use Rattle.amqp_blocks.specs.declared.block.Subject.{Subject};
 ghost use Rattle.amqp_blocks.specs.Blocks.{BeginsInput, IsAllTold, IsBlock, HasBody, HasValue, StandsWithin, IfRefused};
 
 use crate::block::{Block, Subject, some_span};
-use crate::bounds::Bounds;
-use crate::fault::{Cause, Fault, Verdict, bytes_left, verdict_of};
 use crate::message::{message_fault, sections_of};
-use crate::outline::{Outline, outline_at};
+use crate::verdict::{Verdict, bytes_left, verdict_of};
+use amqp_faults::{Bounds, Cause, Fault};
 use amqp_frames::{
     Frame, FrameError, FrameKind, HeaderStep, SaslFrame, Step, next_frame, next_protocol_header,
 };
+use amqp_outlines::{Outline, outline_at};
 use fe2o3_amqp_types::codec::{Refusal, from_slice_located};
 use fe2o3_amqp_types::performatives::{Performative, Transfer};
 use std::alloc::{AllocError, Global};

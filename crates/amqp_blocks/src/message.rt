@@ -1,14 +1,13 @@
 //! Messages, section by section (Part 3, section 3.2).
 ghost use Rattle.std.specs.Prelude.{◌≡◌, ◌≤◌, ◌-◌, ℕ, length, IfOk, IfSome, IfNone, true};
+ghost use Rattle.amqp_outlines.specs.Spans.{IsOutline};
 ghost use Rattle.amqp_blocks.specs.Blocks.{BeginsInput, IsAhead, StandsWithin};
-ghost use Rattle.amqp_blocks.specs.Spans.{IsOutline};
 
 use crate::block::{Block, Subject};
-use crate::bounds::Bounds;
-use crate::entry::Entry;
-use crate::fault::{Fault, Verdict, bytes_left, verdict_of};
 use crate::message_types::{AnyMessage, StrictMessage};
-use crate::outline::{Outline, add_outline, outline_at};
+use crate::verdict::{Verdict, bytes_left, verdict_of};
+use amqp_faults::{Bounds, Fault};
+use amqp_outlines::{Entry, Outline, add_outline, outline_at};
 use fe2o3_amqp_types::codec::{Deserialize, term_len};
 use std::alloc::{AllocError, Global};
 

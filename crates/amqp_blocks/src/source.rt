@@ -1,43 +1,15 @@
 //! What the input is, and its blocks one after another.
 ghost use Rattle.std.specs.Prelude.{◌≡◌, ◌-◌, false, length, Some, IfOk, IfSome, IfNone};
+ghost use Rattle.amqp_faults.specs.declared.options.Form.{Form};
 ghost use Rattle.amqp_blocks.specs.Blocks.{BeginsInput, IsNext, IsSourceOf, IsAllTold};
-ghost use Rattle.amqp_blocks.specs.declared.source.Form.{Form};
 
 use crate::block::Block;
-use crate::bounds::Bounds;
-use crate::described::type_at;
 use crate::frames::Frames;
 use crate::message::Sections;
 use crate::term::Term;
-use amqp_descriptors::is_section;
-use amqp_lines::TypeName;
+use amqp_descriptors::{is_section, type_at};
+use amqp_faults::{Form, Options};
 use std::alloc::{AllocError, Global};
-
-/// What an input is.
-#[derive(Clone, Copy, Debug, PartialEq, Eq)]
-pub enum Form {
-    /// What one side of a connection sends: protocol headers and frames (Part 2, sections 2.2 and 2.3).
-    Frames,
-    /// One message, with its sections in any order (Part 3, section 3.2).
-    Message,
-    /// One message, with its sections in the standard's order.
-    Strict,
-    /// One term of any type (Part 1, section 1.2).
-    Term,
-    /// One value of a type.
-    Type(TypeName),
-}
-
-/// What an input is to be read as, and within which limits.
-#[derive(Clone, Copy, Debug, PartialEq, Eq)]
-pub struct Options {
-    /// What the input is. Without it, its first bytes tell.
-    pub form: Option<Form>,
-    /// The most bytes of a frame, at least 512 (Part 2, section 2.7.1).
-    pub max_frame_size: u32,
-    /// What a value may have at most.
-    pub bounds: Bounds,
-}
 
 /// The blocks of an input that are still to come.
 #[derive(Drop)]

@@ -1,13 +1,13 @@
 //! One term, or one value of a type.
 ghost use Rattle.std.specs.Prelude.{◌≡◌, length, IfOk, IfSome, IfNone};
 ghost use Rattle.amqp_blocks.specs.Blocks.{BeginsInput};
-ghost use Rattle.amqp_blocks.specs.Faults.{EndsWithin};
+ghost use Rattle.amqp_blocks.specs.Verdicts.{EndsWithin};
 
 use crate::block::{Block, Subject};
-use crate::bounds::Bounds;
-use crate::fault::{Cause, Fault, Verdict, verdict_of, verdict_of_term};
-use crate::outline::{Outline, outline_at};
-use amqp_lines::{TypeName, types};
+use crate::verdict::{Verdict, verdict_of, verdict_of_term};
+use amqp_catalogue::{TypeName, types};
+use amqp_faults::{Bounds, Cause, Fault};
+use amqp_outlines::{Outline, outline_at};
 use fe2o3_amqp_types::codec::{LazyValue, Limits};
 use std::alloc::{AllocError, Global};
 
@@ -82,6 +82,6 @@ impl Term {
 fn verdict_of_type(named: TypeName, input: &[u8], limits: &Limits, alloc: Global) -> Verdict
     ensures { EndsWithin (length input.now) result }
 {
-    use amqp_lines::types::*;
+    use amqp_catalogue::types::*;
     types!(named, verdict_of(input, limits, alloc))
 }

@@ -2,7 +2,7 @@
 use Rattle.std.proofs.Common.{◌⊎◌, ℕ, inl, inr}
 use Rattle.amqp_wire.specs.declared.limits.Limits.{Limits}
 use Rattle.amqp_wire.specs.declared.refusal.Refusal.{Refusal}
-use Rattle.amqp_lines.specs.declared.request.TypeName.{TypeName}
+use Rattle.amqp_catalogue.specs.declared.type_name.TypeName.{TypeName}
 use Rattle.amqp_c.specs.Rewriting.{Fails}
 use Rattle.amqp_c.specs.declared.limits.GivenLimits.{GivenLimits}
 use Rattle.amqp_c.specs.declared.outcome.Failure.{Failure}

@@ -1,7 +1,7 @@
 -- The numbers of types by the codes of their descriptors (Part 1, section 1.5), and the names of their fields.
 use Rattle.std.specs.Prelude.{◌≡◌, ◌⊎◌, ℕ, Some, None, List, length}
 use Rattle.std.specs.List.{slice_get}
-use Rattle.amqp_lines.specs.declared.request.TypeName.{TypeName}
+use Rattle.amqp_catalogue.specs.declared.type_name.TypeName.{TypeName}
 use Rattle.amqp_descriptors.specs.Descriptors.{code_of, field_names}
 use Rattle.amqp_c.specs.Rewriting.{HasNumber}
 use Rattle.amqp_c.specs.Room.{Fills}

@@ -3,10 +3,10 @@ use Rattle.std.specs.Prelude.{◌≡◌, ◌⊎◌, ◌<◌, ℕ, List, length}
 use Rattle.amqp_wire.specs.declared.error.Error.TheVariants.{Memory}
 use Rattle.amqp_wire.specs.declared.limits.Limits.{Limits}
 use Rattle.amqp_wire.specs.declared.refusal.Refusal.{Refusal}
-use Rattle.amqp_lines.specs.Answers.{type_name, IsText}
-use Rattle.amqp_lines.specs.Rows.{number_in}
-use Rattle.amqp_lines.specs.contracts.request.TypeName.{the_type}
-use Rattle.amqp_lines.specs.declared.request.TypeName.{TypeName}
+use Rattle.amqp_catalogue.specs.NamedTypes.{type_name, IsText}
+use Rattle.amqp_catalogue.specs.Rows.{number_in}
+use Rattle.amqp_catalogue.specs.contracts.type_name.TypeName.{the_type}
+use Rattle.amqp_catalogue.specs.declared.type_name.TypeName.{TypeName}
 use Rattle.amqp_c.specs.Limits.{AreLimits}
 use Rattle.amqp_named_values.specs.Rewriting.{IsLengthOf, HasNoLength, HasNoText}
 use Rattle.amqp_c.specs.Outcomes.{done, no_room, failure_outcome}

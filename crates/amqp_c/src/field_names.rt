@@ -2,7 +2,7 @@
 ghost use Rattle.std.specs.Prelude.{MatchOption};
 ghost use Rattle.amqp_c.specs.Descriptors.{IsFieldName, HasNoFieldName};
 
-use amqp_lines::TypeName;
+use amqp_catalogue::TypeName;
 
 /// Returns the name of the field with this number, counted from 0, of the type with that number.
 pub(crate) fn field_name(number: u32, index: usize) -> Option<&'static str>

@@ -6,7 +6,7 @@ ghost use Rattle.amqp_c.specs.Rewriting.{IsOf, Fails, IsLength, FailsToRead, IsR
 
 use crate::limits::GivenLimits;
 use crate::outcome::Failure;
-use amqp_lines::TypeName;
+use amqp_catalogue::TypeName;
 use amqp_named_values::{len_of_value, text_of_value};
 use amqp_wire::Limits;
 use std::alloc::Global;

@@ -8,8 +8,8 @@ use Rattle.std.proofs.lemmas.Slice.Eq.{bytes_eq-Decides}
 use Rattle.std.specs.List.{list_all}
 use Rattle.std.specs.Option.{is_some}
 use Rattle.amqp_model.specs.Term.{name}
-use Rattle.amqp_lines.specs.declared.request.TypeName.{TypeName}
-use Rattle.amqp_lines.specs.declared.request.TypeName.TheVariants as line_type
+use Rattle.amqp_catalogue.specs.declared.type_name.TypeName.{TypeName}
+use Rattle.amqp_catalogue.specs.declared.type_name.TypeName.TheVariants as line_type
 use Rattle.amqp_lookahead.specs.Members.{Member, is_of, place_of, as_name, name_place}
 use Rattle.amqp_lookahead.proofs.Members.{place_is}
 use Rattle.amqp_descriptors.specs.Descriptors.{descriptor_of, described, descriptors}

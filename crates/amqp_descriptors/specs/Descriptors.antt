@@ -1,7 +1,7 @@
 -- The descriptors of types (Part 1, section 1.5), and the names of their fields.
 use Rattle.std.specs.Prelude.{ℕ, Option, Some, None, List, [], ◌∷◌, map, option_map, unwrap_or}
-use Rattle.amqp_lines.specs.declared.request.TypeName.{TypeName}
-use Rattle.amqp_lines.specs.declared.request.TypeName.TheVariants as line_type
+use Rattle.amqp_catalogue.specs.declared.type_name.TypeName.{TypeName}
+use Rattle.amqp_catalogue.specs.declared.type_name.TypeName.TheVariants as line_type
 use Rattle.amqp_plain_states.specs.Tables.{accepted, declare, declared, discharge, received, released}
 use Rattle.amqp_delivery.specs.Tables.{modified, rejected, transactional_state}
 use Rattle.amqp_errors.specs.Tables.{error}

@@ -1,9 +1,9 @@
 //! The codes of the descriptors.
 ghost use Rattle.std.specs.Prelude.{◌≡◌, Some, MatchOption};
-ghost use Rattle.amqp_lines.specs.declared.request.TypeName.{TypeName};
+ghost use Rattle.amqp_catalogue.specs.declared.type_name.TypeName.{TypeName};
 ghost use Rattle.amqp_descriptors.specs.Descriptors.{code_of};
 
-use amqp_lines::TypeName;
+use amqp_catalogue::TypeName;
 
 /// Returns the type whose values have the descriptor with this code.
 pub fn type_of_code(code: u64) -> Option<TypeName>

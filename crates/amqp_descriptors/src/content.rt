@@ -1,5 +1,5 @@
 //! What the descriptors describe.
-use amqp_lines::TypeName;
+use amqp_catalogue::TypeName;
 
 /// What a descriptor describes.
 #[derive(Clone, Copy, Debug, PartialEq, Eq)]

@@ -1,6 +1,6 @@
 //! The values that omitted fields have (Part 1, section 1.4).
 use crate::fields::field_name;
-use amqp_lines::TypeName;
+use amqp_catalogue::TypeName;
 
 /// Returns the default value of the field with this number, as the standard writes it, or `None` if the field has none (Part 2,
 /// section 2.7; Part 3, sections 3.2.1, 3.5.3 and 3.5.4).

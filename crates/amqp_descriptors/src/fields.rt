@@ -1,11 +1,11 @@
 //! The fields of composites.
 ghost use Rattle.std.specs.Prelude.{◌≡◌, None, Some, MatchOption, map};
 ghost use Rattle.std.specs.List.{slice_get};
-ghost use Rattle.amqp_lines.specs.declared.request.TypeName.{TypeName};
+ghost use Rattle.amqp_catalogue.specs.declared.type_name.TypeName.{TypeName};
 ghost use Rattle.amqp_descriptors.specs.Descriptors.{field_names};
 
-use amqp_lines::TypeName;
-use amqp_lines::types::{
+use amqp_catalogue::TypeName;
+use amqp_catalogue::types::{
     Attach, Begin, Close, Coordinator, Declare, Declared, DefinedError, Detach, Discharge,
     Disposition, End, Flow, Header, Modified, Open, Properties, Received, Rejected, SaslChallenge,
     SaslInit, SaslMechanisms, SaslOutcome, SaslResponse, Source, Target, TransactionalState,

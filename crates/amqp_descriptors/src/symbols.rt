@@ -1,10 +1,10 @@
 //! The symbols of the descriptors, as `amqp:open:list`.
 ghost use Rattle.std.specs.Prelude.{◌≡◌, ℕ, Some, MatchOption, map};
 ghost use Rattle.amqp_lookahead.specs.Members.{as_name};
-ghost use Rattle.amqp_lines.specs.declared.request.TypeName.{TypeName};
+ghost use Rattle.amqp_catalogue.specs.declared.type_name.TypeName.{TypeName};
 ghost use Rattle.amqp_descriptors.specs.Descriptors.{descriptor_of, descriptors};
 
-use amqp_lines::types::{
+use amqp_catalogue::types::{
     Accepted, ApplicationProperties, Attach, Begin, Close, Coordinator, Data, Declare, Declared,
     DefinedError, DeleteOnClose, DeleteOnNoLinks, DeleteOnNoLinksOrMessages, DeleteOnNoMessages,
     DeliveryAnnotations, Detach, Discharge, Disposition, End, Flow, Footer, Header,

@@ -1,5 +1,5 @@
 //! The names of the types.
-use amqp_lines::{TypeName, types};
+use amqp_catalogue::{TypeName, types};
 use std::alloc::{AllocError, Global};
 
 /// The standard's names of the types, in the order of `TypeName`.

@@ -1,12 +1,11 @@
 //! The entries of a block as lines of text.
-use crate::colours::Colours;
 use crate::part::Part;
-use amqp_blocks::{
-    Entry, Head, Label, Longer, Shape, Span, is_true, longer_descriptor, longer_head, type_name,
-    unsigned, write_digits, write_value,
-};
-use amqp_descriptors::{default_of, field_name, meaning, name_of};
+use amqp_blocks::Span;
+use amqp_descriptors::{default_of, field_name, is_true, meaning, name_of, unsigned};
+use amqp_faults::{type_name, write_digits, write_value};
+use amqp_inspect_io::Colours;
 use amqp_kinds::Kind;
+use amqp_outlines::{Entry, Head, Label, Longer, Shape, longer_descriptor, longer_head};
 use std::alloc::AllocError;
 use std::fmt::Write;
 

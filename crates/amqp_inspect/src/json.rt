@@ -5,7 +5,8 @@ ghost use Rattle.serde_json.specs.Written.{IsInOrder};
 
 use crate::json_entries::json_of_entries;
 use crate::part::Part;
-use amqp_blocks::{Block, Fault, Span, Subject};
+use amqp_blocks::{Block, Span, Subject};
+use amqp_faults::Fault;
 use amqp_frames::{FrameKind, ProtocolHeader, ProtocolId};
 use serde_json::{Map, Value, put};
 use std::alloc::{AllocError, Global};

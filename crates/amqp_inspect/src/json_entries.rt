@@ -1,11 +1,10 @@
 //! The entries of a block as values of JSON, each with those that are in it.
 use crate::json::{put_span, put_text};
-use crate::json_value::json_of_value;
 use crate::part::Part;
-use amqp_blocks::{
-    Entry, Head, Label, Longer, Shape, longer_descriptor, longer_head, type_name, write_digits,
-};
 use amqp_descriptors::{Content, default_of, field_name, name_of};
+use amqp_faults::{type_name, write_digits};
+use amqp_inspect_io::json_of_value;
+use amqp_outlines::{Entry, Head, Label, Longer, Shape, longer_descriptor, longer_head};
 use serde_json::{Map, Value, put};
 use std::alloc::{AllocError, Global};
 use std::fmt::Write;

@@ -1,29 +1,20 @@
 //! The program `amqp_inspect` tells what bytes of AMQP 1.0 are: the frames of one direction of a connection, a message, or a term of any
 //! type. Each value is printed with its type and its place, and the fields of the standard's types with their names. A fault is printed with
-//! its place, the path to it, and the bytes around it. `arguments` has the options.
+//! its place, the path to it, and the bytes around it. The options are in `amqp_inspect_io`.
 //!
 //! The status is 0 if all is well, 1 if there is a fault, and 2 if the arguments are wrong.
 #![tactic(auto)]
 
-mod arguments;
-mod colours;
-mod digits;
 mod entry_text;
-mod html;
-mod input;
 mod json;
 mod json_entries;
-mod json_value;
-mod page;
 mod part;
 mod printer;
-mod progress;
 mod text;
 
 use amqp_blocks::Source;
 use amqp_descriptors::names;
-use arguments::Arguments;
-use input::{Input, PIECE};
+use amqp_inspect_io::{Arguments, Input, PIECE, command};
 use printer::Printer;
 use std::env;
 use std::process::ExitCode;
@@ -31,7 +22,7 @@ use std::process::ExitCode;
 fn main(rt: HostRuntime) -> Result<ExitCode, anyhow::Error> {
     let words: Vec<String> = env::args(&rt)?.collect(rt.alloc())?;
     let names = names(rt.alloc())?;
-    let command = arguments::command(names.as_slice(), rt.alloc())?;
+    let command = command(names.as_slice(), rt.alloc())?;
     let matches = match command.try_get_matches_from(words.as_slice()) {
         Ok(matches) => matches,
         Err(error) => {

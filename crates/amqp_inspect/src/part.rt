@@ -1,5 +1,5 @@
 //! Blocks in their place.
-use crate::colours::Colours;
+use amqp_inspect_io::Colours;
 
 /// The bytes of a block, where they begin in the input, and how text about them is coloured.
 #[derive(Clone, Copy)]

@@ -1,13 +1,10 @@
 //! What is printed of the blocks, one after another.
-use crate::arguments::Answer;
-use crate::colours::Colours;
-use crate::html::write_element;
-use crate::input::{Input, PIECE};
 use crate::json::json_of_block;
 use crate::part::Part;
-use crate::progress::Progress;
-use crate::{page, text};
-use amqp_blocks::{Block, Source, saving_of};
+use crate::text;
+use amqp_blocks::{Block, Source};
+use amqp_inspect_io::{Answer, Colours, Input, PIECE, Progress, page, write_element};
+use amqp_outlines::saving_of;
 use std::alloc::Global;
 use std::fmt::Write as _;
 use std::io;

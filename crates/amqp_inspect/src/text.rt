@@ -1,10 +1,12 @@
 //! Blocks as text.
-use crate::colours::Colours;
 use crate::entry_text::{write_entries, write_span};
 use crate::part::Part;
-use amqp_blocks::{Block, Entry, Fault, Shape, Span, Subject, write_digits};
+use amqp_blocks::{Block, Span, Subject};
 use amqp_descriptors::name_of;
+use amqp_faults::{Fault, write_digits};
 use amqp_frames::{FrameKind, ProtocolHeader, ProtocolId};
+use amqp_inspect_io::Colours;
+use amqp_outlines::{Entry, Shape};
 use std::alloc::AllocError;
 use std::fmt::Write;
 

@@ -2,5 +2,4 @@ mod Pieces
 mod Requests
 mod SetLimits
 mod Progress
-mod Rows
 mod Texts

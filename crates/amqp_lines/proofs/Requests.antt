@@ -9,12 +9,13 @@ use Rattle.std.proofs.lemmas.List.{take_all, length-drop}
 use Rattle.std.proofs.Math.Seq.{split_at}
 use denote.Enum.Declared.{tag_of}
 use Rattle.memchr.specs.Find.{IsFirstByte, is_byte}
+use Rattle.amqp_catalogue.specs.NamedTypes.{type_name}
+use Rattle.amqp_catalogue.specs.declared.type_name.TypeName.{TypeName}
+use Rattle.amqp_catalogue.specs.declared.type_name.TheConstants.{NAMES}
+use Rattle.amqp_catalogue.specs.contracts.type_name.TypeName.{the_type}
+use Rattle.amqp_catalogue.proofs.Rows.{each_listed}
 use Rattle.amqp_lines.specs.Lines.{HasNo}
-use Rattle.amqp_lines.specs.Answers.{type_name, Asks, StandsFor}
-use Rattle.amqp_lines.specs.declared.request.TypeName.{TypeName}
-use Rattle.amqp_lines.specs.declared.request.TheConstants.{NAMES}
-use Rattle.amqp_lines.specs.contracts.request.TypeName.{the_type}
-use Rattle.amqp_lines.proofs.Rows.{each_listed}
+use Rattle.amqp_lines.specs.Answers.{Asks, StandsFor}
 use Rattle.amqp_lines.proofs.Pieces.{first_none, first_some}
 
 abbrev all_differ : ℕ → List ℕ → Bool

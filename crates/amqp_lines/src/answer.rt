@@ -5,6 +5,7 @@ ghost use Rattle.amqp_lines.specs.Answers.{printed_of, is_good, limits_after, An
 
 use crate::limits::limits_of;
 use crate::request::Request;
+use crate::text::canonical_text;
 use amqp_codec::Error;
 use amqp_read_write::Limits;
 use std::alloc::Global;
@@ -35,7 +36,7 @@ impl Answer {
             return Ok(Answer::NoRequest);
         };
         let input = request.input.as_slice();
-        match request.type_name.canonical_text(input, limits, alloc) {
+        match canonical_text(request.type_name, input, limits, alloc) {
             Ok((text, len)) => Ok(Answer::Rewritten {
                 text,
                 left: input.len().saturating_sub(len),

@@ -8,8 +8,5 @@ mod limits;
 mod lines;
 mod request;
 mod text;
-mod type_list;
 
 pub use engine::run;
-pub use request::TypeName;
-pub use type_list::types;

@@ -4,8 +4,8 @@ use Rattle.amqp_model.specs.Term.{Term}
 use Rattle.amqp_wire.specs.declared.limits.Limits.{Limits}
 use Rattle.amqp_wire.specs.declared.refusal.Refusal.{Refusal}
 use Rattle.amqp_codec.specs.Reading.{Reading, BeginsWithin, IsUnreadableWithin, IsFaultyAt}
-use Rattle.amqp_lines.specs.Answers.{of_type}
-use Rattle.amqp_lines.specs.declared.request.TypeName.{TypeName}
+use Rattle.amqp_catalogue.specs.NamedTypes.{of_type}
+use Rattle.amqp_catalogue.specs.declared.type_name.TypeName.{TypeName}
 use Rattle.amqp_read_write.specs.Rewritten.{IsUnwrittenWithin}
 
 -- So many bytes are taken by the one value that the input begins with within the limits.

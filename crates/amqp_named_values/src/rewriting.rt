@@ -1,13 +1,13 @@
 //! Reading and rewriting as the type that is named.
 ghost use Rattle.std.specs.Prelude.{◌≡◌, ◌≤◌, ◌⊎◌, List, ℕ, length, IfOk, IfErr, OnErr};
 ghost use Rattle.amqp_wire.specs.declared.error.Error.TheVariants.{Memory};
-ghost use Rattle.amqp_lines.specs.Answers.{IsText};
+ghost use Rattle.amqp_catalogue.specs.NamedTypes.{IsText};
 ghost use Rattle.amqp_read_write.specs.Rewritten.{IsRewrittenWithin};
 ghost use Rattle.amqp_read_write.specs.Room.{IsPlaced};
 ghost use Rattle.amqp_named_values.specs.Rewriting.{IsLengthWithin, IsLengthOf, IsUnreadableAt, HasNoLength, HasNoTextAt, HasNoText};
 
-use amqp_lines::types::*;
-use amqp_lines::{TypeName, types};
+use amqp_catalogue::types::*;
+use amqp_catalogue::{TypeName, types};
 use amqp_read_write::{from_slice_located, write_into};
 use amqp_wire::Refusal;
 use fe2o3_amqp_types::codec::{Canonical, Deserialize, Limits};

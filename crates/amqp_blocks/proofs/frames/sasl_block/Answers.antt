@@ -1,7 +1,7 @@
 use Rattle.std.proofs.Common.{length}
+use Rattle.amqp_outlines.proofs.OutlineLemmas.{longer_outline}
 use Rattle.amqp_blocks.specs.declared.block.Subject.TheVariants.{NoFrame}
 use Rattle.amqp_blocks.proofs.BlockLemmas.{at_most_the_end}
-use Rattle.amqp_blocks.proofs.OutlineLemmas.{longer_outline}
 use Rattle.amqp_blocks.proofs.frames.sasl_block.Goals as goal
 
 pub returns : goal.returns

@@ -1,6 +1,6 @@
 use Rattle.std.proofs.Common.{arith, length, unwrap_or}
+use Rattle.amqp_outlines.proofs.OutlineLemmas.{longer_outline}
 use Rattle.amqp_blocks.proofs.BlockLemmas.{at_most_the_end}
-use Rattle.amqp_blocks.proofs.OutlineLemmas.{longer_outline}
 use Rattle.amqp_blocks.proofs.message.sections_of.Goals as goal
 use Rattle.amqp_blocks.proofs.message.sections_of.Goals.{else-sections-test, then-sections-test+in_ok-end+in_default-2, then-sections-test+in_ok-end+in_default}
 

@@ -1,5 +1,5 @@
 use Rattle.std.proofs.Common.{◌≤◌, length}
-use Rattle.amqp_blocks.specs.Spans.{IsOutline}
+use Rattle.amqp_outlines.specs.Spans.{IsOutline}
 use Rattle.amqp_blocks.proofs.message.sections_of.Given as goal
 
 abbrev pub invariant-sections : goal.invariant-sections

@@ -1,6 +1,6 @@
 use Rattle.std.proofs.Common.{rules, arith, ◌≤◌, ◌<◌, ◌-◌, length, IfSome, sym, subst}
+use Rattle.amqp_outlines.specs.Spans.{IsOutline}
 use Rattle.amqp_blocks.specs.Blocks.{StandsWithin, IsBlock}
-use Rattle.amqp_blocks.specs.Spans.{IsOutline}
 use Rattle.amqp_blocks.specs.declared.block.Subject.TheVariants.{Section}
 use Rattle.amqp_blocks.proofs.BlockLemmas.{block_begins, at_most_the_end, past_the_begin}
 use Rattle.amqp_blocks.proofs.message.Sections.next_block.Goals as goal

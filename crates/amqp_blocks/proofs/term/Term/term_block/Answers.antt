@@ -1,5 +1,5 @@
 use Rattle.std.proofs.Common.{rules, arith, ◌≤◌, ◌<◌, ◌^◌, ◌+◌, length}
-use Rattle.amqp_blocks.specs.Spans.{IsOutline}
+use Rattle.amqp_outlines.specs.Spans.{IsOutline}
 use Rattle.amqp_blocks.specs.declared.block.Subject.TheVariants.{Term}
 use Rattle.amqp_blocks.proofs.BlockLemmas.{block_begins, blocks_begin, at_most_the_end, past_the_begin}
 use Rattle.amqp_blocks.proofs.term.Term.term_block.Goals as goal

@@ -1,4 +1,0 @@
-use Rattle.amqp_blocks.proofs.outline.enter.Goals as goal
-
-pub returns-in-Some : goal.returns-in-Some
-returns-in-Some c = λ l n g m. c.enter_shown.ensures l n g m

@@ -1,4 +1,0 @@
-use Rattle.amqp_blocks.proofs.outline.open_parts.Goals as goal
-
-pub returns : goal.returns
-returns c = λ l n es g h. rw c.in_ok-push.ensures.items h

@@ -1,0 +1,2 @@
+pub mod OutlineLemmas
+pub mod NodeLemmas
