@@ -95,10 +95,10 @@ class Kept:
     def of_edit(self, crate, edit):
         """Returns what the edit came to, or None."""
         try:
-            kind, text = json.loads(text_of(self.path_of(crate, edit)))
+            kind, text, seconds = json.loads(text_of(self.path_of(crate, edit)))
         except (OSError, ValueError):
             return None
-        return (kind, text) if not self.anew else None
+        return (kind, text, seconds) if not self.anew else None
 
     def keep(self, crate, edit, result):
         if result[0] == UNTRIED:
@@ -114,12 +114,12 @@ class Kept:
 
 
 class Record:
-    """The file edits/record of a crate: a line 'seconds N', about how many processor seconds all its edits take, and for each edit a line with its name, the
-    checksum of what its verdict depended on, and the verdict."""
+    """The file edits/record of a crate: for each edit a line with its name, the checksum of what its verdict depended on, the verdict, and the processor
+    seconds that it took: its share of the checks that tried it."""
 
     def __init__(self, crate, edits):
         self.path, self.edits = f"{TOP}/crates/{crate}/edits/record", edits
-        self.seconds, self.lines, self.wrong = 0, {}, []
+        self.lines, self.wrong = {}, []
         for row in text_of(self.path).splitlines() if os.path.isfile(self.path) else []:
             self.read(row)
         names = {it.name for it in edits}
@@ -128,36 +128,37 @@ class Record:
 
     def read(self, row):
         words = row.split(" ")
-        if len(words) == 2 and words[0] == "seconds" and words[1].isdecimal():
-            self.seconds = int(words[1])
-        elif len(words) == 3 and words[2] in ARE_REFUSED and words[0] not in self.lines:
-            self.lines[words[0]] = (words[1], words[2])
+        if len(words) == 4 and words[2] in ARE_REFUSED and words[3].isdecimal() and words[0] not in self.lines:
+            self.lines[words[0]] = (words[1], words[2], int(words[3]))
         else:
             self.wrong.append(f"edits/record has a line that it can't have: {row}")
 
     def stands(self, edit, sum):
         """Whether the record says that the edit was refused, when what its verdict depends on was what it is now."""
-        return self.lines.get(edit.name, ("", ""))[0] == sum
+        return self.lines.get(edit.name, ("",))[0] == sum
 
-    def write(self, sums, results, seconds):
+    def seconds(self, edit):
+        """Returns how many processor seconds the edit took, as far as the record knows."""
+        return self.lines.get(edit.name, (0,))[-1]
+
+    def write(self, sums, results):
         """Writes a line for each edit: of what was tried now, or else as it stands. Returns what keeps it from that."""
         lines = {it.name: self.lines.get(it.name) for it in self.edits}
-        for name, (kind, text) in results.items():
+        for name, (kind, text, seconds) in results.items():
             if kind not in ARE_REFUSED:
                 return f"{name} wasn't refused: {text}"
-            lines[name] = (sums[name], kind)
+            lines[name] = (sums[name], kind, round(seconds))
         lacking = [name for name, line in lines.items() if not line]
         if lacking:
             return f"{', '.join(lacking)} wasn't tried: run it with --all"
-        self.seconds = round(seconds) or self.seconds
         with open(self.path, "w", encoding="utf-8") as file:
-            file.write(f"seconds {self.seconds}\n" + "".join(f"{name} {sum} {kind}\n" for name, (sum, kind) in sorted(lines.items())))
+            file.write("".join(f"{name} {sum} {kind} {seconds}\n" for name, (sum, kind, seconds) in sorted(lines.items())))
         return ""
 
 
 # The sample.
 
-# How many edits of one crate the sample has at most, and what the fixed parts of its checks take, in seconds.
+# How many edits of one crate the sample has at most, and what comes to their seconds, since a smaller check has a larger share of reading the libraries.
 OF_ONE_CRATE, FIXED_SECONDS = 10, 30
 
 
@@ -176,5 +177,5 @@ def sample_of(records, at, minutes):
             break
         edits = sorted(records[name].edits, key=lambda it: sum_of(at, it.name))[:OF_ONE_CRATE]
         found[name] = {it.name for it in edits}
-        left -= FIXED_SECONDS + records[name].seconds * len(edits) / max(1, len(records[name].edits))
+        left -= FIXED_SECONDS + sum(map(records[name].seconds, edits))
     return found
