@@ -119,10 +119,10 @@ class Record:
 
     def __init__(self, crate, edits):
         self.path, self.edits = f"{TOP}/crates/{crate}/edits/record", edits
-        self.lines, self.wrong = {}, []
-        for row in text_of(self.path).splitlines() if os.path.isfile(self.path) else []:
+        self.lines, self.wrong, self.is_there = {}, [], os.path.isfile(self.path)
+        for row in text_of(self.path).splitlines() if self.is_there else []:
             self.read(row)
-        names = {it.name for it in edits}
+        names = {it.name for it in edits} if self.is_there else set()
         self.wrong += [f"{name} has a line in edits/record, and there is no such edit" for name in sorted({*self.lines} - names)]
         self.wrong += [f"{name} has no line in edits/record: run tools/edits --all --record {crate}" for name in sorted(names - {*self.lines})]
 
