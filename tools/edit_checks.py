@@ -177,7 +177,8 @@ class Checked:
 
     def notes(self, functions, is_alone):
         """Returns the lines that say what isn't proved: those of these functions, or else all if the edit is the only one."""
-        notes = re.findall(r"(?m)^(?:note: )?(?:\./)?((\S+?):(\d+):\d+: (?!note: |warning: ).*)", self.said)
+        # (a hole is no fault)
+        notes = re.findall(r"(?m)^(?:note: )?(?:\./)?((\S+?):(\d+):\d+: (?!note: |warning: |.*: has-holes$).*)", self.said)
         own = [note for note, file, row in notes for it in functions if file == it.file and int(row) in it.rows or it.is_proved_by(file)]
         return own or [note for note, _, _ in notes if is_alone]
 
@@ -248,16 +249,22 @@ class Crate:
             self.told = {"::".join([self.name, *path.split(".")]) for path in found}
         if not self.told:
             self.told = set(functions_in(self.check(self.as_it_is, sorted(map(self.name_of, functions))).said))
+        known = {self.name_of(it) for it in functions_of(self.of_rt.folder)} & self.told
         for function in functions_of(self.of_rt.folder):
-            if self.told and self.name_of(function) not in self.told:
-                self.names[function] = self.nearest(function, self.told)
+            others = self.like(function, self.told - known)
+            # (of several names it can't be known which is the function's)
+            if self.name_of(function) not in self.told and len(others) == 1:
+                self.names[function] = others[0]
+
+    def like(self, function, names):
+        """Returns the names that end as the function does and stand in one of its modules, if they aren't another function's."""
+        heads = tuple("::".join(part for part in (self.name, module_of(file), "") if part) for file in (function.home, function.file))
+        return [it for it in names if it.startswith(heads) and it.endswith("::" + function.name) and it not in self.names.values()]
 
     def nearest(self, function, names):
-        """Returns which of the names is most like what was guessed, of those that end as the function does and stand in one of its modules."""
+        """Returns which of the names is most like what was guessed."""
         guess = f"{self.name}::{function.path()}"
-        heads = tuple("::".join(part for part in (self.name, module_of(file), "") if part) for file in (function.home, function.file))
-        names = [it for it in names if it.startswith(heads) and it.endswith("::" + function.name) and it not in self.names.values()]
-        return max(names, key=lambda it: difflib.SequenceMatcher(None, it, guess).ratio(), default=guess)
+        return max(self.like(function, names), key=lambda it: difflib.SequenceMatcher(None, it, guess).ratio(), default=guess)
 
     def look_up(self, function, said):
         """Returns what a check calls the function, by what the check said that didn't know it, or else by a check of all functions of its name."""
@@ -321,7 +328,7 @@ class Crate:
 
     def try_given(self, edits, over):
         """Returns what edits come to that are refused over the contracts of all other functions."""
-        edits = [it for it in edits if self.given and self.names_for(it) and self.names_for(it) <= self.counted]
+        edits = [it for it in edits if self.given and self.names_for(it) and self.names_for(it) <= self.counted and all(map(self.told_name_of, it.functions))]
         if not edits:
             return {}
         halves = edits[: len(edits) // 2], edits[len(edits) // 2 :]
