@@ -11,7 +11,7 @@ use denote.Enum.Declared.{tag_of}
 use Rattle.memchr.specs.Find.{IsFirstByte, is_byte}
 use Rattle.amqp_catalogue.specs.NamedTypes.{type_name}
 use Rattle.amqp_catalogue.specs.declared.type_name.TypeName.{TypeName}
-use Rattle.amqp_catalogue.specs.declared.type_name.TheConstants.{NAMES}
+use Rattle.amqp_lines.specs.declared.request.TheConstants.{NAMES}
 use Rattle.amqp_catalogue.specs.contracts.type_name.TypeName.{the_type}
 use Rattle.amqp_catalogue.proofs.Rows.{each_listed}
 use Rattle.amqp_lines.specs.Lines.{HasNo}

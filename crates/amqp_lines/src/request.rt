@@ -4,10 +4,13 @@ ghost use Rattle.amqp_wire.specs.declared.error.Error.TheVariants.{Memory};
 ghost use Rattle.amqp_catalogue.specs.declared.type_name.TypeName.{TypeName};
 ghost use Rattle.amqp_lines.specs.Answers.{StandsFor, Asks};
 
-use amqp_catalogue::TypeName;
+use amqp_catalogue::{TypeName, types};
 use amqp_codec::Error;
 use memchr::memchr;
 use std::alloc::Global;
+
+// The names that a line may begin with. The proof goes over them: none has a space, so the first space of a line ends the name.
+const NAMES: &[(&str, TypeName)] = types!(names);
 
 /// A line `<type> <hex>`: the type that it names, and the bytes that its digits mean.
 #[derive(Drop)]
