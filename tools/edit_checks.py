@@ -177,8 +177,9 @@ class Checked:
 
     def notes(self, functions, is_alone):
         """Returns the lines that say what isn't proved: those of these functions, or else all if the edit is the only one."""
-        # (a hole is no fault)
-        notes = re.findall(r"(?m)^(?:note: )?(?:\./)?((\S+?):(\d+):\d+: (?!note: |warning: |.*: has-holes$).*)", self.said)
+        notes = re.findall(r"(?m)^(?:note: )?(?:\./)?((\S+?):(\d+):\d+: (?!note: |warning: ).*)", self.said)
+        # (a hole that the copy has for a proof is no fault)
+        notes = [it for it in notes if not (it[1].startswith("proofs/") and it[1] in self.copy.texts)]
         own = [note for note, file, row in notes for it in functions if file == it.file and int(row) in it.rows or it.is_proved_by(file)]
         return own or [note for note, _, _ in notes if is_alone]
 
